@@ -1,0 +1,6 @@
+//! Numbers without bound and the serials modulo 2^32 that stand for them on the wire (RFC 1982 with 32 bits).
+#![tactic(auto)]
+
+mod serial;
+
+pub use serial::unwrap;
