@@ -1,0 +1,9 @@
+pub mod Arrivals
+pub mod Life
+pub mod Standing
+pub mod State
+pub mod Answers
+pub mod Pairs
+pub mod Report
+pub mod Units
+pub mod Trace
