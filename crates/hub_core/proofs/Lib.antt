@@ -1,0 +1,3 @@
+pub mod ReceiverLemmas
+pub mod ReportLemmas
+pub mod StateLemmas

@@ -1,0 +1,25 @@
+-- The rows of the code's table print as the lives do.
+use Rattle.std.proofs.Common.{◌≡◌, ℕ, ◌-◌, List, [], ◌∷◌, ◌++◌, length, flat_map, ◌∙◌, ap, sym, subst, refl, arith}
+use Rattle.history_model.specs.declared.names.ConnName.{ConnName}
+use Rattle.history_model.specs.Life.{Heard, place, next, sent, kept, replies}
+use Rattle.history_model.specs.Pairs.{Paired, none, more}
+use Rattle.history_model.specs.Report.{session_text, session_line, session_line_at, shown, trace_number}
+use Rattle.hub_core.specs.declared.session.Session.{Session}
+use Rattle.hub_core.specs.Rows.{row_text}
+use Rattle.hub_core.specs.Stands.{Sits}
+use Rattle.hub_core.proofs.ReceiverLemmas.{next_is}
+
+-- one row
+row_line : (names : List ConnName) (name : List ℕ) (s : Session) (life : List Heard) → Sits s life → row_text names (name, s) ≡ session_line names (name, life)
+row_line names name s life h =
+    let counted : s.sent - s.base ≡ length (replies life) = omega (arith, h.sent_is, h.base_is) in
+    ap (λ n. session_text (shown name) n s.sent (s.sent - s.base) (trace_number names s.connection) s.channel) (sym (next_is s.receiver life h.receives))
+    ∙ ap (λ n. session_text (shown name) (next life) n (s.sent - s.base) (trace_number names s.connection) s.channel) h.sent_is
+    ∙ ap (λ n. session_text (shown name) (next life) (sent life) n (trace_number names s.connection) s.channel) counted
+    ∙ sym (ap (session_line_at names name life) h.place_is)
+
+-- all rows
+pub rows_lines : (names : List ConnName) {es : List (List ℕ × Session)} {lives : List (List ℕ × List Heard)} → Paired Sits es lives → flat_map (row_text names) es ≡ flat_map (session_line names) lives
+rows_lines names none = refl
+rows_lines names (more {k = k} {x = x} {y = y} {es = es} {fs = fs} h p) =
+    ap (λ xs. xs ++ flat_map (row_text names) es) (row_line names k x y h) ∙ ap (λ xs. session_line names (k, y) ++ xs) (rows_lines names p)

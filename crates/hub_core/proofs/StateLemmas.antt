@@ -1,0 +1,90 @@
+-- The tables of the code and those of the definitions change alike.
+use Rattle.std.proofs.Common.{◌≡◌, ℕ, ◌<◌, ◌≤◌, ◌^◌, ◌&&◌, not, ltb, leb, Bool, true, false, List, [], ◌∷◌, length, Option, None, Some, is_some, ◌∙◌, ap, sym, subst, refl, arith, Result, Ok, Err, IfOk}
+use Rattle.std.proofs.lemmas.Bool.{ltb-true, leb-true, false≢true, cond-true, and_parts}
+use Rattle.std.specs.Map.{lookup, set_value}
+use Rattle.history_model.specs.Life.{Heard, next}
+use Rattle.history_model.specs.Pairs.{Paired, Both}
+use Rattle.history_model.specs.Standing.{World, is_name, hears_in, hears_control, begins, may_attach, life_of}
+use Rattle.history_model.specs.State.{may_arrive}
+use Rattle.amqp_values.specs.declared.memory.NoMemory.{NoMemory}
+use Rattle.amqp_terms.specs.declared.control.Control.TheVariants.{SessionAttach}
+use Rattle.amqp_terms.specs.declared.event.Out.{Out}
+use Rattle.history_model.specs.Answers.{attach_answers, control_answers}
+use Rattle.history_model.proofs.Tables.{paired-lookup, paired-set, length-paired}
+use Rattle.hub_core.specs.declared.session.Session.{Session}
+use Rattle.hub_core.specs.declared.state.State.{State}
+use Rattle.hub_core.specs.Places.{holder_in}
+use Rattle.hub_core.specs.Receives.{Receives}
+use Rattle.hub_core.specs.Stands.{Sits, StandsAs, next_in}
+use Rattle.hub_core.proofs.ReceiverLemmas.{next_is}
+
+-- both are there, or neither
+both-is_some : {X Y : Type 0} (R : X → Y → Type 0) (a : Option X) (b : Option Y) → Both R a b → is_some a ≡ is_some b
+both-is_some R None None h = refl
+both-is_some R None (Some y) h = absurd h
+both-is_some R (Some x) None h = absurd h
+both-is_some R (Some x) (Some y) h = refl
+
+-- the test for an attach, by the code's tables
+pub attach_same : (s : State) (w : World) (queues : List (List ℕ)) (c k : ℕ) (name : List ℕ) → StandsAs s w queues
+    → (not (is_some (holder_in s.places c k)) && (not (is_some (lookup (is_name name) s.sessions.entries)) && ltb (length s.sessions.entries) 1024))
+    ≡ (not (is_some (w.holder c k)) && (not (is_some (life_of w name)) && ltb (length w.lives) 1024))
+attach_same s w queues c k name h =
+    ap (λ o. not (is_some o) && (not (is_some (lookup (is_name name) s.sessions.entries)) && ltb (length s.sessions.entries) 1024)) (h.holders c k)
+    ∙ ap (λ b. not (is_some (w.holder c k)) && (not b && ltb (length s.sessions.entries) 1024))
+    (both-is_some Sits (lookup (is_name name) s.sessions.entries) (life_of w name) (paired-lookup Sits (is_name name) h.lives_are))
+    ∙ ap (λ n. not (is_some (w.holder c k)) && (not (is_some (life_of w name)) && ltb n 1024)) (length-paired Sits h.lives_are)
+
+-- a session that was found hears one thing more
+pub heard_set : (name : List ℕ) (es : List (List ℕ × Session)) (lives : List (List ℕ × List Heard)) (x y : Session) (heard : Heard)
+    → Paired Sits es lives → Some x ≡ lookup (is_name name) es → ((life : List Heard) → lookup (is_name name) lives ≡ Some life → Sits x life → Sits y (heard ∷ life))
+    → Paired Sits (set_value (is_name name) es y) (hears_in lives name (lookup (is_name name) lives) heard)
+heard_set name es lives x y heard p found f = by_life (lookup (is_name name) lives) refl (subst (λ o. Both Sits o (lookup (is_name name) lives)) (sym found) (paired-lookup Sits (is_name name) p))
+  where
+    by_life : (o : Option (List Heard)) → lookup (is_name name) lives ≡ o → Both Sits (Some x) o → Paired Sits (set_value (is_name name) es y) (hears_in lives name o heard)
+    by_life None e b = absurd b
+    by_life (Some life) e b = paired-set Sits (is_name name) y (heard ∷ life) (f life e b) p
+
+-- a session at its end takes no command
+pub no_arrival : (name : List ℕ) (lives : List (List ℕ × List Heard)) (x : Session) (life : List Heard) → may_arrive (lookup (is_name name) lives) ≡ true
+    → lookup (is_name name) lives ≡ Some life → Sits x life → 2 ^ 62 ≤ x.receiver.next → ⊥
+no_arrival name lives x life may e s far =
+    let below : next life < 2 ^ 62 = ltb-true (next life) (2 ^ 62) (sym (ap may_arrive e) ∙ may) in
+    omega (arith, next_is x.receiver life s.receives)
+
+-- where no session is, none takes one
+pub nobody_arrives : (name : List ℕ) (es : List (List ℕ × Session)) (lives : List (List ℕ × List Heard)) → Paired Sits es lives → None ≡ lookup (is_name name) es
+    → may_arrive (lookup (is_name name) lives) ≡ true → ⊥
+nobody_arrives name es lives p none may = by_life (lookup (is_name name) lives) may (subst (λ o. Both Sits o (lookup (is_name name) lives)) (sym none) (paired-lookup Sits (is_name name) p))
+  where
+    by_life : (o : Option (List Heard)) → may_arrive o ≡ true → Both Sits None o → ⊥
+    by_life None m b = false≢true m
+    by_life (Some life) m b = b
+
+-- where no session is, nothing is heard
+pub nobody_hears : (name : List ℕ) (es : List (List ℕ × Session)) (lives : List (List ℕ × List Heard)) (heard : Heard) → Paired Sits es lives → None ≡ lookup (is_name name) es
+    → Paired Sits es (hears_in lives name (lookup (is_name name) lives) heard)
+nobody_hears name es lives heard p none = by_life (lookup (is_name name) lives) (subst (λ o. Both Sits o (lookup (is_name name) lives)) (sym none) (paired-lookup Sits (is_name name) p))
+  where
+    by_life : (o : Option (List Heard)) → Both Sits None o → Paired Sits es (hears_in lives name o heard)
+    by_life None b = p
+    by_life (Some life) b = absurd b
+
+-- a number beyond the next isn't pointed at
+pub no_point : (name : List ℕ) (lives : List (List ℕ × List Heard)) (x : Session) (life : List Heard) (number : ℕ) → leb number (next_in (lookup (is_name name) lives)) ≡ true
+    → lookup (is_name name) lives ≡ Some life → Sits x life → x.receiver.next < number → ⊥
+no_point name lives x life number within e s beyond =
+    let low : number ≤ next life = leb-true number (next life) (sym (ap (λ o. leb number (next_in o)) e) ∙ within) in
+    omega (arith, next_is x.receiver life s.receives)
+
+-- an attach that may be taken is
+pub attach_taken : (s : State) (w : World) (queues : List (List ℕ)) (c k : ℕ) (name : List ℕ) (force : Bool) (result : Result (List Out) NoMemory)
+    → ((may_attach w c k name && not force) && leb (length name) 65517) ≡ true
+    → IfOk result (λ units. (units ≡ attach_answers k name) × StandsAs s (begins w c k name) queues)
+    → IfOk result (λ units. (units ≡ control_answers w c k (SessionAttach (Some name) force)) × StandsAs s (hears_control w c k (SessionAttach (Some name) force)) queues)
+attach_taken s w queues c k name force (Err e) both h = tt
+attach_taken s w queues c k name force (Ok units) both h =
+    let may : may_attach w c k name ≡ true = (and_parts (may_attach w c k name) (not force) (and_parts (may_attach w c k name && not force) (leb (length name) 65517) both).0).0 in (
+      h.0 ∙ sym (cond-true (may_attach w c k name) (attach_answers k name) [] may),
+      subst (λ v. StandsAs s v queues) (sym (cond-true (may_attach w c k name) (begins w c k name) w may)) h.1,
+    )

@@ -1,0 +1,28 @@
+-- The new life has its rows in both tables.
+use Rattle.std.proofs.Common.{◌≡◌, Some, cond, eqb, ◌&&◌, sym, subst, ap, ◌∙◌, refl, [], ◌∷◌}
+use Rattle.std.specs.BTreeMap.{insert_entry}
+use Rattle.std.specs.Ordering.{nat_cmp}
+use Rattle.std.specs.Cmp.Lexicographic.{slice_cmp}
+use Rattle.history_model.specs.Life.{Attach}
+use Rattle.history_model.specs.Pairs.{Paired}
+use Rattle.history_model.proofs.Tables.{paired-insert}
+use Rattle.hub_core.specs.declared.session.Session.{Session}
+use Rattle.hub_core.specs.Places.{holder_in}
+use Rattle.hub_core.specs.Stands.{Sits}
+use Rattle.hub_core.proofs.state.State.seat.Goals as goal
+
+pub returns : goal.returns
+returns c = λ w queues s.
+    let new : Session = record { connection = c.args.connection; channel = c.args.channel; receiver = c.new.result; sent = 0; base = 0 } in
+    let sits : Sits new (Attach c.args.connection c.args.channel ∷ []) = record { place_is = refl; receives = c.new.ensures c.args.connection c.args.channel; sent_is = refl; base_is = refl } in
+    record {
+      joined_is = s.joined_is;
+      limited = s.limited;
+      holders = λ a k. c.in_ok-put.ensures.ok a k
+          ∙ ap (λ n. cond (eqb a c.args.connection && eqb k c.args.channel) (Some n) (holder_in c.args.self.now.places a k)) c.in_ok-holder.ensures
+          ∙ ap (λ o. cond (eqb a c.args.connection && eqb k c.args.channel) (Some c.args.name.now) o) (s.holders a k);
+      lives_are = subst (λ es. Paired Sits es (insert_entry (slice_cmp nat_cmp) w.lives c.args.name.now (Attach c.args.connection c.args.channel ∷ [])))
+          (sym (c.in_ok-insert.ensures.entries ∙ ap (λ k. insert_entry (slice_cmp nat_cmp) c.args.self.now.sessions.entries k new) c.in_ok-key.ensures))
+          (paired-insert Sits (slice_cmp nat_cmp) c.args.name.now new (Attach c.args.connection c.args.channel ∷ []) sits s.lives_are);
+      queues_are = s.queues_are;
+    }

@@ -1,0 +1,18 @@
+-- A connection joined, and nothing goes out.
+use Rattle.std.proofs.Common.{◌≡◌, None, sym, subst, ap, ◌∙◌}
+use Rattle.amqp_terms.specs.declared.event.Outs.{Outs}
+use Rattle.amqp_terms.specs.declared.event.HubEvent.TheVariants as event
+use Rattle.history_model.specs.Answers.{outs, joined_as}
+use Rattle.history_model.specs.Standing.{after_event}
+use Rattle.history_model.specs.State.{queues_after}
+use Rattle.hub_core.specs.Stands.{StandsAs}
+use Rattle.hub_core.proofs.state.State.step.Goals as goal
+
+pub returns-in-Join : goal.returns-in-Join
+returns-in-Join c = λ w queues s covered.
+    let both = c.join-joined.ensures w queues s in
+    let gives : ◌≡◌ {A = Outs} (record { joined = c.join-joined.result; units = c.new.result; asked = None }) (outs w event.Join) =
+    ap (λ j. record { joined = j; units = c.new.result; asked = None }) both.0 ∙ ap (λ u. record { joined = joined_as w event.Join; units = u; asked = None }) c.new.ensures in (
+      subst (λ e. ◌≡◌ {A = Outs} (record { joined = c.join-joined.result; units = c.new.result; asked = None }) (outs w e)) (sym c.in-Join.is) gives,
+      subst (λ e. StandsAs c.join-joined.new.self (after_event w e) (queues_after w queues e)) (sym c.in-Join.is) both.1,
+    )

@@ -1,0 +1,12 @@
+//! Sessions and broker as one state, which takes one event after another.
+#![tactic(auto)]
+
+mod hub;
+mod places;
+mod receiver;
+mod report;
+mod session;
+mod state;
+
+pub use history_model::{HubEvent, Out, Outs};
+pub use hub::Hub;
