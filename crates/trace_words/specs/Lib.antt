@@ -1,0 +1,3 @@
+pub mod HexWords
+pub mod Numbers
+pub mod Parts
