@@ -48,6 +48,17 @@ impl Outs {
 /// Lets units go that were to go out.
 pub fn discard_units(_units: Items<Out>) {}
 
+/// A unit alone, on a channel. Without memory it is let go.
+pub fn alone(alloc: Global, channel: u16, unit: Unit) -> Result<Items<Out>, NoMemory>
+    ensures { IfOk result (λ units. units ≡ record { channel = channel; unit = unit } ∷ []) }
+{
+    let mut units = Items::new(alloc);
+    match units.push(Out { channel, unit }) {
+        Ok(()) => Ok(units),
+        Err(_) => Err(NoMemory),
+    }
+}
+
 /// A control alone, on a channel.
 pub fn send_alone(alloc: Global, channel: u16, control: Control) -> Result<Items<Out>, NoMemory>
     ensures { IfOk result (λ units. units ≡ record { channel = channel; unit = Unit.Control control } ∷ []) }
