@@ -33,12 +33,18 @@ point_in payload =
     if length payload == 16 && (begins_with 2 7 3 0 payload && is_nought payload)
     then Some (unit.Control (SessionCommandPoint (Some (from_be_bytes w32 (take 4 (drop 4 payload)))) (Some 0))) else None
 
--- queue.declare with a name alone: `08 01 01 00 01 00`, then the name as a str8
+-- the octets of queue.declare with a name alone: `08 01 01 00 01 00`, then the name as a str8
+abbrev pub is_declare : List ℕ → Bool
+is_declare payload =
+    nat_le 7 (length payload) && (begins_with 8 1 1 0 payload && (slice_index payload 4 == 1 && (slice_index payload 5 == 0
+    && slice_index payload 6 == length (drop 7 payload))))
+
+-- queue.declare of a text
+abbrev pub declares : List ℕ → Option AnyUnit
+declares name = if is_utf8 name then Some (unit.Command false (QueueDeclare (Some name) None false false false false None) None) else None
+
 unfoldable pub declare_in : List ℕ → Option AnyUnit
-declare_in payload =
-    if nat_le 7 (length payload) && (begins_with 8 1 1 0 payload && (slice_index payload 4 == 1 && (slice_index payload 5 == 0
-    && (slice_index payload 6 == length (drop 7 payload) && is_utf8 (drop 7 payload)))))
-    then Some (unit.Command false (QueueDeclare (Some (drop 7 payload)) None false false false false None) None) else None
+declare_in payload = if is_declare payload then declares (drop 7 payload) else None
 
 -- the first that is there
 abbrev pub or_else : Option AnyUnit → Option AnyUnit → Option AnyUnit
