@@ -329,7 +329,7 @@ impl State {
     }
 
     /// Draws a connection's number.
-    fn join(&mut self) -> Option<u64>
+    pub(crate) fn join(&mut self) -> Option<u64>
         ensures { (w : World) (queues : List (List ℕ)) → StandsAs self.old w queues
             → (result ≡ joined_as w HubEvent.Join) × StandsAs self.new (after_event w HubEvent.Join) queues }
     {
@@ -358,7 +358,7 @@ impl State {
         }
     }
 
-    fn covers_unit(&self, connection: u64, channel: u16, unit: &Unit) -> bool
+    pub(crate) fn covers_unit(&self, connection: u64, channel: u16, unit: &Unit) -> bool
         ensures { (w : World) (queues : List (List ℕ)) → StandsAs self.now w queues
             → result ≡ covers_unit w (record { queues = queues }) connection channel unit.now }
     {
@@ -417,7 +417,7 @@ impl State {
     }
 
     /// Takes a unit on a channel.
-    fn hear(
+    pub(crate) fn hear(
         &mut self,
         alloc: Global,
         connection: u64,
