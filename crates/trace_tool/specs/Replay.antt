@@ -1,0 +1,82 @@
+-- What the lines of a trace are to the broker, and what is written for each.
+use Rattle.std.specs.Prelude.{◌≡◌, ℕ, ◌==◌, Bool, is_some, if◌then◌else◌, map, List, [], ◌∷◌, Option, None, Some, Result, Ok, Err}
+use Rattle.std.specs.Map.{lookup}
+use Rattle.history_model.specs.declared.names.ConnName.{ConnName}
+use Rattle.history_model.specs.declared.trace.TraceEvent.{TraceEvent}
+use Rattle.history_model.specs.declared.trace.TraceEvent.TheVariants as trace
+use Rattle.history_model.specs.Standing.{world}
+use Rattle.history_model.specs.State.{state}
+use Rattle.history_model.specs.Trace.{Past, Went, past_event, hear_bytes, to_line}
+use Rattle.history_model.specs.Report.{closing_lines}
+use Rattle.hub_core.specs.Hub.{Serves, keeper_of as hub_keeper}
+use Rattle.line_runs.specs.Lines.{LineStep, Goes, Breaks, Lacks}
+use Rattle.line_runs.specs.declared.tool.Stop.{Stop}
+use Rattle.line_runs.specs.declared.tool.Stop.TheVariants.{BadLine, Unbuilt, NoMemory}
+use Rattle.line_runs.specs.declared.tool.TraceWhy.TheVariants.{NoSuchConnection, InUse}
+use Rattle.trace_tool.specs.declared.line.Parsed.{Parsed}
+use Rattle.trace_tool.specs.declared.line.Parsed.TheVariants.{Skipped, Event, Bad}
+use Rattle.trace_tool.specs.declared.replay.Replay.{Replay}
+use Rattle.trace_tool.specs.Line.{parsed}
+
+-- a connection of the trace is there
+abbrev pub known : Past → ℕ → Bool
+known p connection = is_some (lookup (λ n. n == connection) p.connections)
+
+-- what is written for an outcome
+abbrev pub went_step : ℕ → Option Went → LineStep
+went_step connection None = Lacks
+went_step connection (Some w) = Goes (to_line connection w.sent)
+
+-- what an event comes to
+abbrev pub event_step : Past → TraceEvent → LineStep
+event_step p (trace.Ready c) = if known p c then Breaks InUse else Goes []
+event_step p (trace.Open c) = if known p c then Breaks InUse else Lacks
+event_step p (trace.Bytes c octets) = if known p c then went_step c (hear_bytes (lookup (λ n. n == c) p.connections) octets p.arrivals) else Breaks NoSuchConnection
+event_step p (trace.Lose c) = if known p c then Lacks else Breaks NoSuchConnection
+event_step p (trace.Quiet c) = if known p c then Lacks else Breaks NoSuchConnection
+event_step p (trace.Tick now) = Lacks
+event_step p trace.Restart = Lacks
+
+-- what a line comes to
+abbrev pub parsed_step : Past → Parsed → LineStep
+parsed_step p Skipped = Goes []
+parsed_step p (Event e) = event_step p e
+parsed_step p (Bad why) = Breaks why
+
+abbrev pub line_step : Past → List ℕ → LineStep
+line_step p line = parsed_step p (parsed line)
+
+-- after a line
+abbrev pub past_parsed : Past → Parsed → Past
+past_parsed p Skipped = p
+past_parsed p (Event e) = past_event p e
+past_parsed p (Bad why) = p
+
+-- after these lines, the newest first
+abbrev pub past_lines : List (List ℕ) → Past
+past_lines [] = record { connections = []; arrivals = [] }
+past_lines (line ∷ lines) = past_parsed (past_lines lines) (parsed line)
+
+-- a connection's number in the hub, and in the trace
+abbrev pub conn_name : (ℕ × ℕ) → ConnName
+conn_name row = record { number = row.1; name = row.0 }
+
+-- the closing lines
+abbrev pub closing_of : Past → List ℕ
+closing_of p = closing_lines (map conn_name p.connections) (world p.arrivals) (state p.arrivals)
+
+-- the broker's hub heard what came, and it has the connections
+pub record StandsFor {K : Type 0} (now : Replay K) (p : Past) : Type 0 where
+  pub serves : Serves now.hub p.arrivals
+  pub same : now.connections.entries ≡ p.connections
+
+-- its store
+abbrev pub keeper_of : {K : Type 0} → Replay K → K
+keeper_of now = hub_keeper now.hub
+
+-- the event is answered as it comes to
+abbrev pub Happens : {K : Type 0} → Replay K → Past → TraceEvent → Result (List ℕ) Stop → Type 0
+Happens now p e (Ok text) = (event_step p e ≡ Goes text) × StandsFor now (past_event p e)
+Happens now p e (Err (BadLine why)) = event_step p e ≡ Breaks why
+Happens now p e (Err Unbuilt) = event_step p e ≡ Lacks
+Happens now p e (Err NoMemory) = Unit {0}
