@@ -1,6 +1,8 @@
 //! `amqp_broker WORDS..`: the broker's tools.
 #![tactic(auto)]
 
+#[cfg(test)]
+mod rows;
 mod status;
 mod streams;
 mod tool;
