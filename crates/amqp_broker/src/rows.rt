@@ -1,17 +1,21 @@
 //! Runs of `replay` over small traces, as tests.
-use crate::status::Status;
-use crate::tool::run_tool;
+use keeper_core::MapKeeper;
 use line_runs::TraceWhy;
 use outside_core::{Calls, MemSink, MemSource};
 use std::alloc::Global;
 use std::test::Fail;
+use trace_tool::{Status, run_tool};
 
 /// The status of a run over the text, where it wrote what it should.
 fn ran(alloc: Global, word: &str, text: &str, wanted: &str) -> Result<Option<Status>, Fail> {
     let octets = Vec::from_slice(alloc, text.as_bytes())?;
     let mut input = MemSource::new(octets, 7, Calls::from_vec(Vec::new(alloc)));
     let mut out = MemSink::new(alloc, 5, Calls::from_vec(Vec::new(alloc)));
-    let status = run_tool(alloc, Some(word), false, &mut input, &mut out);
+    let mut words = Vec::new(alloc);
+    words.push(String::from_str(alloc, word)?)?;
+    let none = Calls::from_vec(Vec::new(alloc));
+    let keeper = MapKeeper::new(alloc, none, Calls::from_vec(Vec::new(alloc)));
+    let (status, _) = run_tool(alloc, words.as_slice(), &mut input, &mut out, keeper);
     if out.octets() == wanted.as_bytes() {
         Ok(Some(status))
     } else {

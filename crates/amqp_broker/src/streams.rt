@@ -1,18 +1,20 @@
 //! The standard streams as a source and a sink.
-ghost use Rattle.std.specs.Prelude.{Option, None};
+ghost use Rattle.std.specs.Prelude.{◌≡◌, Option, None};
 
 use outside_core::{ReadAnswer, Sink, Source, WriteAnswer};
 use std::io::{Read, Stdin, Stdout, Write};
 
 /// The standard input.
 #[derive(Drop)]
-pub struct Input {
+pub(crate) struct Input {
     stream: Stdin,
     failed: u64,
 }
 
 impl Input {
-    pub fn new(stream: Stdin) -> Input {
+    pub(crate) fn new(stream: Stdin) -> Input
+        ensures { result.failed ≡ 0 }
+    {
         Input { stream, failed: 0 }
     }
 }
@@ -36,13 +38,15 @@ impl Source for Input {
 
 /// The standard output.
 #[derive(Drop)]
-pub struct Output {
+pub(crate) struct Output {
     stream: Stdout,
     failed: u64,
 }
 
 impl Output {
-    pub fn new(stream: Stdout) -> Output {
+    pub(crate) fn new(stream: Stdout) -> Output
+        ensures { result.failed ≡ 0 }
+    {
         Output { stream, failed: 0 }
     }
 }

@@ -40,24 +40,15 @@ pub struct Outs {
     pub asked: Option<bool>,
 }
 
-impl Outs {
-    /// Lets the outs go. Crates above call this, so that they need no proof of their own for their parts.
-    pub fn discard(self) {}
+// A crate that lets one of these go needs a proof of its own for all their parts. The two calls below are for those.
+
+/// Lets an event go.
+pub fn discard_event(event: HubEvent) {
+    drop(event);
 }
 
 /// Lets units go that were to go out.
 pub fn discard_units(_units: Items<Out>) {}
-
-/// A unit alone, on a channel. Without memory it is let go.
-pub fn alone(alloc: Global, channel: u16, unit: Unit) -> Result<Items<Out>, NoMemory>
-    ensures { IfOk result (λ units. units ≡ record { channel = channel; unit = unit } ∷ []) }
-{
-    let mut units = Items::new(alloc);
-    match units.push(Out { channel, unit }) {
-        Ok(()) => Ok(units),
-        Err(_) => Err(NoMemory),
-    }
-}
 
 /// A control alone, on a channel.
 pub fn send_alone(alloc: Global, channel: u16, control: Control) -> Result<Items<Out>, NoMemory>

@@ -10,5 +10,5 @@ mod unit;
 pub use command::Command;
 pub use content::{Content, DeliveryProperties, Header, HeaderItem, MessageProperties};
 pub use control::Control;
-pub use event::{HubEvent, Out, Outs, alone, discard_units, send, send_alone};
+pub use event::{HubEvent, Out, Outs, discard_event, discard_units, send, send_alone};
 pub use unit::Unit;

@@ -1,4 +1,6 @@
 //! The reasons for which octets are refused.
+ghost use Rattle.std.specs.Prelude.{◌≡◌};
+ghost use Rattle.amqp_values.specs.Words.{word_of};
 
 /// Why octets were refused, or a connection closed. Its word is what `replay` and connection.close say.
 #[derive(Clone, Copy, Debug, PartialEq, Eq)]
@@ -74,7 +76,9 @@ pub enum Why {
 
 impl Why {
     /// The reason's word.
-    pub fn word(self) -> &'static str {
+    pub fn word(self) -> &'static str
+        ensures { result.now ≡ word_of self }
+    {
         match self {
             Why::Short => "Short",
             Why::UnknownCode => "UnknownCode",

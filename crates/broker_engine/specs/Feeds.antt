@@ -11,7 +11,7 @@ pub record IsFed (piece : List ℕ) (fed : Fed) : Type 0 where
   pub channel : ℕ
   pub unit : AnyUnit
   pub first : first_unit piece ≡ Some (record { size = fed.taken; channel = channel; unit = unit })
-  pub came : fed.came ≡ record { channel = channel; unit = unit } ∷ []
+  pub came : fed.unit ≡ Some (channel, unit)
   pub low : 0 < fed.taken
   pub high : fed.taken ≤ length piece
 

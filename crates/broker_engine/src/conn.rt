@@ -3,9 +3,8 @@ ghost use Rattle.broker_engine.specs.Feeds.{Feeds};
 
 use crate::read::unit_of;
 use amqp_frames::frame_head;
-use amqp_terms::{Out, alone};
+use amqp_terms::Unit;
 use amqp_values::NoMemory;
-use sqlite_items::Items;
 use std::alloc::Global;
 
 /// A unit that came whole, and how many octets it took.
@@ -13,8 +12,8 @@ use std::alloc::Global;
 pub struct Fed {
     /// The octets of its frame.
     pub taken: usize,
-    /// The unit with its channel, alone.
-    pub came: Items<Out>,
+    /// The unit, with its channel before it.
+    pub unit: Option<(u16, Unit)>,
 }
 
 /// Why a piece gave no unit.
@@ -36,13 +35,10 @@ pub fn feed(alloc: Global, piece: &[u8]) -> Result<Fed, FeedFault>
         return Err(FeedFault::Unbuilt);
     };
     match unit_of(alloc, head.kind, &piece[HEADER..head.size]) {
-        Ok(Some(unit)) => match alone(alloc, head.channel, unit) {
-            Ok(came) => Ok(Fed {
-                taken: head.size,
-                came,
-            }),
-            Err(NoMemory) => Err(FeedFault::NoMemory),
-        },
+        Ok(Some(unit)) => Ok(Fed {
+            taken: head.size,
+            unit: Some((head.channel, unit)),
+        }),
         Ok(None) => Err(FeedFault::Unbuilt),
         Err(NoMemory) => Err(FeedFault::NoMemory),
     }

@@ -1,6 +1,8 @@
 //! Sessions and broker as one state, which takes one event after another.
 #![tactic(auto)]
 
+mod answers;
+mod covers;
 mod hub;
 mod places;
 mod receiver;

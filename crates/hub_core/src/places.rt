@@ -67,4 +67,14 @@ impl Places {
         self.names.insert(place, name)?;
         Ok(())
     }
+    /// Takes the channel from its session.
+    pub(crate) fn clear(&mut self, connection: u64, channel: u16)
+        ensures { (c k : ℕ) → holder_in self.new c k
+            ≡ (if (c == connection) && (k == channel) then None else holder_in self.old c k) }
+    {
+        self.names.remove(&Place {
+            connection,
+            channel,
+        });
+    }
 }

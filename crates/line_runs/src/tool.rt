@@ -47,6 +47,12 @@ pub trait LineTool {
     /// A tool stands for an opened one and the lines that it took since.
     ghost stands: { Self → Self → List (List ℕ) → Type 0 };
 
+    /// What holds of a tool that is only to be closed, by the tool as it was opened: what became of its store.
+    ghost rests: { Self → Self → Type 0 };
+
+    /// A tool may be closed after each line.
+    ghost rest: { (now opened : Self) (past : List (List ℕ)) → stands now opened past → rests now opened };
+
     /// What an opened tool does with a line, after others, by all that its store answers in the run.
     ghost step: { Self → List Bool → List (List ℕ) → List ℕ → LineStep };
 
@@ -57,7 +63,8 @@ pub trait LineTool {
     fn take(&mut self, alloc: Global, line: &[u8]) -> Result<Octets, Stop>
         ensures grows { Grows (given self.old) (given self.new) }
         ensures steps { (opened : Self) (past : List (List ℕ)) → stands self.old opened past
-            → StepsBy (step opened) (stands self.new opened) (given self.new) past line.now result };
+            → StepsBy (step opened) (stands self.new opened) (given self.new) past line.now result }
+        ensures rests { (opened : Self) (past : List (List ℕ)) → stands self.old opened past → rests self.new opened };
 
     /// Gives what is to be written at the end of the input.
     fn close(&self, alloc: Global) -> Result<Octets, NoMemory>

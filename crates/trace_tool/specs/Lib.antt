@@ -1,3 +1,4 @@
 pub mod Hearing
 pub mod Line
 pub mod Replay
+pub mod Tool

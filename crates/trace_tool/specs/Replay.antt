@@ -9,6 +9,8 @@ use Rattle.history_model.specs.State.{state}
 use Rattle.history_model.specs.Trace.{Past, Went, past_event, hear_bytes, to_line}
 use Rattle.history_model.specs.Report.{closing_lines}
 use Rattle.hub_core.specs.Hub.{Serves, keeper_of as hub_keeper}
+use Rattle.keeper_core.specs.declared.keeper.OpenFault.{OpenFault}
+use Rattle.keeper_core.specs.declared.keeper.OpenFault.TheVariants.{NoMemory as no_memory}
 use Rattle.line_runs.specs.Lines.{LineStep, Goes, Breaks, Lacks}
 use Rattle.line_runs.specs.declared.tool.Stop.{Stop}
 use Rattle.line_runs.specs.declared.tool.Stop.TheVariants.{BadLine, Unbuilt, NoMemory}
@@ -70,9 +72,14 @@ pub record StandsFor {K : Type 0} (now : Replay K) (p : Past) : Type 0 where
   pub serves : Serves now.hub p.arrivals
   pub same : now.connections.entries ≡ p.connections
 
--- its store
+-- its keeper
 abbrev pub keeper_of : {K : Type 0} → Replay K → K
 keeper_of now = hub_keeper now.hub
+
+-- no line came yet, over the keeper; or memory was wanting, and the keeper comes back
+abbrev pub Begins : {K : Type 0} → K → Result (Replay K) (OpenFault × K) → Type 0
+Begins keeper (Ok now) = StandsFor now (past_lines []) × (keeper_of now ≡ keeper)
+Begins keeper (Err (fault, back)) = (fault ≡ no_memory) × (back ≡ keeper)
 
 -- the event is answered as it comes to
 abbrev pub Happens : {K : Type 0} → Replay K → Past → TraceEvent → Result (List ℕ) Stop → Type 0

@@ -4,5 +4,9 @@
 mod hearing;
 mod line;
 mod replay;
+mod status;
+mod tool;
 
 pub use replay::{Replay, run_replay};
+pub use status::Status;
+pub use tool::run_tool;

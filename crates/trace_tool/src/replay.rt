@@ -6,13 +6,14 @@ ghost use Rattle.std.specs.Map.{lookup};
 ghost use Rattle.history_model.specs.declared.trace.TraceEvent.TheVariants as trace;
 ghost use Rattle.history_model.specs.Trace.{Past, to_line};
 ghost use Rattle.line_runs.specs.Run.{Reports, ReadHasCause, WriteHasCause};
-ghost use Rattle.trace_tool.specs.Replay.{StandsFor, Happens, conn_name, line_step, past_lines, closing_of, known};
+ghost use Rattle.trace_tool.specs.Replay.{StandsFor, Happens, conn_name, line_step, past_lines, closing_of, known, keeper_of};
 
-use crate::hearing::hear_piece;
+use crate::hearing::{hear_piece, join};
 use crate::line::{Parsed, parse};
 use amqp_values::{NoMemory, Octets};
 use history_model::{ConnName, TraceEvent};
 use hub_core::Hub;
+use keeper_core::{Keeper, OpenFault};
 use line_runs::{Ended, LineTool, Stop, TraceWhy, run_lines};
 use outside_core::{Sink, Source};
 use std::alloc::Global;
@@ -81,20 +82,23 @@ fn not_taken(is_in_order: bool, why: TraceWhy) -> Stop
     Stop::BadLine(why)
 }
 
-impl<K> Replay<K> {
-    ghost use Rattle.trace_tool.specs.Replay.{keeper_of};
+impl<K: Keeper> Replay<K> {
+    ghost use Rattle.trace_tool.specs.Replay.{Begins, keeper_of};
 
-    /// A broker that no line came to yet, over this store.
-    pub fn open(alloc: Global, keeper: K) -> Replay<K>
-        ensures stands { StandsFor result (past_lines []) }
+    /// A broker that no line came to yet, over this keeper.
+    pub fn open(alloc: Global, keeper: K) -> Result<Replay<K>, (OpenFault, K)>
+        ensures { Begins keeper result }
     {
-        Replay {
-            hub: Hub::open(alloc, keeper),
-            connections: BTreeMap::new(alloc),
+        match Hub::open(alloc, keeper) {
+            Ok(hub) => Ok(Replay {
+                hub,
+                connections: BTreeMap::new(alloc),
+            }),
+            Err(refused) => Err(refused),
         }
     }
 
-    /// Gives the store back.
+    /// Gives the keeper back.
     pub fn close(self) -> K
         ensures { result ≡ keeper_of self }
     {
@@ -114,22 +118,28 @@ impl<K> Replay<K> {
 
     /// A connection whose negotiation is done joins.
     fn ready(&mut self, alloc: Global, connection: u32) -> Result<Octets, Stop>
-        ensures { (p : Past) → StandsFor self.old p → Happens self.new p (trace.Ready connection) result }
+        ensures happens { (p : Past) → StandsFor self.old p → Happens self.new p (trace.Ready connection) result }
+        ensures keeper { keeper_of self.new ≡ keeper_of self.old }
     {
         if self.has(connection) {
             return Err(Stop::BadLine(TraceWhy::InUse));
         }
-        if let Some(number) = self.hub.join() {
-            if self.connections.insert(connection, number).is_err() {
-                return Err(Stop::NoMemory);
+        match join(&mut self.hub) {
+            Ok(Some(number)) => {
+                if self.connections.insert(connection, number).is_err() {
+                    return Err(Stop::NoMemory);
+                }
+                Ok(Octets::new(alloc))
             }
+            Ok(None) => Ok(Octets::new(alloc)),
+            Err(NoMemory) => Err(Stop::NoMemory),
         }
-        Ok(Octets::new(alloc))
     }
 
     /// A connection's octets come.
     fn bytes(&mut self, alloc: Global, connection: u32, octets: &Octets) -> Result<Octets, Stop>
-        ensures { (p : Past) → StandsFor self.old p → Happens self.new p (trace.Bytes connection octets.now) result }
+        ensures happens { (p : Past) → StandsFor self.old p → Happens self.new p (trace.Bytes connection octets.now) result }
+        ensures keeper { keeper_of self.new ≡ keeper_of self.old }
     {
         let Some(number) = number_in(&self.connections, connection) else {
             return Err(Stop::BadLine(TraceWhy::NoSuchConnection));
@@ -146,7 +156,8 @@ impl<K> Replay<K> {
 
     /// An event of the trace happens.
     fn happen(&mut self, alloc: Global, event: &TraceEvent) -> Result<Octets, Stop>
-        ensures { (p : Past) → StandsFor self.old p → Happens self.new p event.now result }
+        ensures happens { (p : Past) → StandsFor self.old p → Happens self.new p event.now result }
+        ensures keeper { keeper_of self.new ≡ keeper_of self.old }
     {
         match event {
             TraceEvent::Ready { connection } => self.ready(alloc, *connection),
@@ -163,10 +174,14 @@ impl<K> Replay<K> {
     }
 }
 
-impl<K> LineTool for Replay<K> {
+impl<K: Keeper> LineTool for Replay<K> {
     ghost given = { λ now. [] };
 
-    ghost stands = { λ now opened past. StandsFor now (past_lines past) };
+    ghost stands = { λ now opened past. StandsFor now (past_lines past) × (keeper_of now ≡ keeper_of opened) };
+
+    ghost rests = { λ now opened. keeper_of now ≡ keeper_of opened };
+
+    ghost rest = { λ now opened past stood. stood.1 };
 
     ghost step = { λ opened given past line. line_step (past_lines past) line };
 
@@ -183,14 +198,14 @@ impl<K> LineTool for Replay<K> {
 
     fn close(&self, alloc: Global) -> Result<Octets, NoMemory> {
         let names = names_of(alloc, &self.connections)?;
-        self.hub.report(alloc, names.as_slice())
+        self.hub.report(names.as_slice())
     }
 }
 
-/// Runs the broker over a trace, and gives its store back.
+/// Runs the broker over a trace, and gives its keeper back.
 ///
 /// What is written for each line is written before the next one is looked at.
-pub fn run_replay<A: Source, B: Sink, K>(
+pub fn run_replay<A: Source, B: Sink, K: Keeper>(
     alloc: Global,
     keeper: K,
     input: &mut A,
@@ -198,11 +213,16 @@ pub fn run_replay<A: Source, B: Sink, K>(
 ) -> (Ended, K)
     ensures reports { IfSome (A.left input.old) (λ all. Reports (λ past line. line_step (past_lines past) line) (λ past. closing_of (past_lines past))
         all (A.left input.old) (A.left input.new) (B.held out.old) (B.held out.new) result.0) }
+    ensures keeper { result.1 ≡ keeper }
     ensures read_to_end { result.0 ≡ Ended.Ok → IsAtEnd (A.left input.new) }
     ensures read_cause { ReadHasCause (A.faults input.old) (A.faults input.new) (Some result.0) }
     ensures write_cause { WriteHasCause (B.faults out.old) (B.faults out.new) (Some result.0) }
 {
-    let mut tool = Replay::open(alloc, keeper);
-    let ended = run_lines(alloc, &mut tool, input, out);
-    (ended, tool.close())
+    match Replay::open(alloc, keeper) {
+        Ok(mut tool) => {
+            let ended = run_lines(alloc, &mut tool, input, out);
+            (ended, tool.close())
+        }
+        Err((_, keeper)) => (Ended::NoMemory, keeper),
+    }
 }

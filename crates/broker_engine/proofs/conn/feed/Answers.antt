@@ -1,5 +1,5 @@
 -- The frame's header lies within the piece, and its payload holds the unit.
-use Rattle.std.proofs.Common.{ap, ◌∙◌, arith}
+use Rattle.std.proofs.Common.{ap, refl, ◌∙◌, arith}
 use Rattle.history_model.specs.Trace.{came_in}
 use Rattle.broker_engine.proofs.Heads.{head_within, first_is}
 use Rattle.broker_engine.proofs.conn.feed.Goals as goal
@@ -13,14 +13,14 @@ slice_bounds-unit_of-start c = let w = head_within c.args.piece.now c.in-Some.he
 pub slice_bounds-unit_of-end : goal.slice_bounds-unit_of-end
 slice_bounds-unit_of-end c = let w = head_within c.args.piece.now c.in-Some.head c.in-Some.ensures in omega (arith, w.low, w.high)
 
-pub returns-in-Ok : goal.returns-in-Ok
-returns-in-Ok c =
+pub returns-in-Ok-Some : goal.returns-in-Ok-Some
+returns-in-Ok-Some c =
     let w = head_within c.args.piece.now c.in-Some.head c.in-Some.ensures in
     record {
       channel = c.in-Some.head.channel;
       unit = c.in-Ok-Some.unit;
       first = first_is c.args.piece.now c.in-Some.head c.in-Ok-Some.field-0 c.in-Some.ensures w c.in-Ok-Some.ensures ∙ ap (came_in c.in-Some.head) c.in-Ok-Some.field-0-is;
-      came = c.in-Ok.ensures;
+      came = refl;
       low = omega (arith, w.low);
       high = w.high;
     }

@@ -1,7 +1,7 @@
 -- The frames so far were heard, and each takes some octets.
-use Rattle.std.proofs.Common.{List, length}
+use Rattle.std.proofs.Common.{◌≡◌, List, length}
 use Rattle.history_model.specs.Arrivals.{Arrival}
-use Rattle.hub_core.specs.Hub.{Serves}
+use Rattle.hub_core.specs.Hub.{Serves, keeper_of}
 use Rattle.trace_tool.proofs.Pieces.{Going}
 use Rattle.trace_tool.proofs.hearing.hear_piece.Given as goal
 
@@ -9,4 +9,6 @@ abbrev pub decreases-loop-rest : goal.decreases-loop-rest
 decreases-loop-rest g l = length l.rest
 
 abbrev pub invariant-loop-rest : goal.invariant-loop-rest
-invariant-loop-rest g l = (h : List Arrival) → Serves l.initial.hub h → Going l.hub h l.number l.octets l.rest l.initial.sent.items l.sent.items
+invariant-loop-rest g l =
+    ((h : List Arrival) → Serves l.initial.hub h → Going l.hub h l.number l.octets l.rest l.initial.sent.items l.sent.items)
+    × (keeper_of l.hub ≡ keeper_of l.initial.hub)

@@ -6,5 +6,5 @@ told : (left : Option (List ℕ)) (P : List ℕ → Type 0) → IfSome left (λ 
 told None P t = t
 told (Some all) P t = t []
 
-pub returns-clause-reports : goal.returns-clause-reports
-returns-clause-reports g c = told _ _ c.run_lines-ended.ensures.reports
+pub returns-in-Ok-clause-reports : goal.returns-in-Ok-clause-reports
+returns-in-Ok-clause-reports g c = told _ _ c.run_lines-ended.ensures.reports

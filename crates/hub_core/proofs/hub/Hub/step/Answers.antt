@@ -9,5 +9,5 @@ use Rattle.hub_core.proofs.hub.Hub.step.Goals as goal
 
 pub returns-clause-steps : goal.returns-clause-steps
 returns-clause-steps g c = λ h s covered.
-    subst (λ q. IfOk c.step.result (λ o. (o ≡ outs (world h) c.args.event.now) × StandsAs c.step.new.self (after_event (world h) c.args.event.now) q))
-    (sym (state_event h c.args.event.now)) (c.step.ensures (world h) (state h).queues s covered)
+    subst (λ q. IfOk c.step-outs.result (λ o. (o ≡ outs (world h) c.args.event) × StandsAs c.step-outs.new.self (after_event (world h) c.args.event) q))
+    (sym (state_event h c.args.event)) (c.step-outs.ensures.steps (world h) (state h).queues s covered)

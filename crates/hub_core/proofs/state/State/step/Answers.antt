@@ -8,8 +8,8 @@ use Rattle.history_model.specs.State.{queues_after}
 use Rattle.hub_core.specs.Stands.{StandsAs}
 use Rattle.hub_core.proofs.state.State.step.Goals as goal
 
-pub returns-in-Join : goal.returns-in-Join
-returns-in-Join c = λ w queues s covered.
+pub returns-in-Join-clause-steps : goal.returns-in-Join-clause-steps
+returns-in-Join-clause-steps c = λ w queues s covered.
     let both = c.join-joined.ensures w queues s in
     let gives : ◌≡◌ {A = Outs} (record { joined = c.join-joined.result; units = c.new.result; asked = None }) (outs w event.Join) =
     ap (λ j. record { joined = j; units = c.new.result; asked = None }) both.0 ∙ ap (λ u. record { joined = joined_as w event.Join; units = u; asked = None }) c.new.ensures in (

@@ -1,0 +1,36 @@
+-- The words of the reasons.
+use Rattle.std.specs.Prelude.{ℕ, List, codes}
+use Rattle.amqp_values.specs.declared.why.Why.{Why}
+use Rattle.amqp_values.specs.declared.why.Why.TheVariants as why
+
+abbrev pub word_of : Why → List ℕ
+word_of why.Short = codes "Short"
+word_of why.UnknownCode = codes "UnknownCode"
+word_of why.BadText = codes "BadText"
+word_of why.BadBoolean = codes "BadBoolean"
+word_of why.SizeDiffers = codes "SizeDiffers"
+word_of why.CountDiffers = codes "CountDiffers"
+word_of why.RepeatedKey = codes "RepeatedKey"
+word_of why.TooDeep = codes "TooDeep"
+word_of why.ReservedFlag = codes "ReservedFlag"
+word_of why.BadRanges = codes "BadRanges"
+word_of why.BadStruct = codes "BadStruct"
+word_of why.BadSessionHeader = codes "BadSessionHeader"
+word_of why.TrailingOctets = codes "TrailingOctets"
+word_of why.UnknownClass = codes "UnknownClass"
+word_of why.UnknownControl = codes "UnknownControl"
+word_of why.ContentNotAllowed = codes "ContentNotAllowed"
+word_of why.TooFar = codes "TooFar"
+word_of why.BadSize = codes "BadSize"
+word_of why.BadFlags = codes "BadFlags"
+word_of why.BadType = codes "BadType"
+word_of why.BadTrack = codes "BadTrack"
+word_of why.TooManyChannels = codes "TooManyChannels"
+word_of why.TooLarge = codes "TooLarge"
+word_of why.TooMuchOpen = codes "TooMuchOpen"
+word_of why.BadHeader = codes "BadHeader"
+word_of why.Mechanism = codes "Mechanism"
+word_of why.TuneRange = codes "TuneRange"
+word_of why.VirtualHost = codes "VirtualHost"
+word_of why.OutOfOrder = codes "OutOfOrder"
+word_of why.Silent = codes "Silent"

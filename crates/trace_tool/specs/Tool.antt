@@ -1,0 +1,64 @@
+-- What a tool's words ask for, and what its status says of the run.
+use Rattle.std.specs.Prelude.{◌≡◌, ◌≤◌, ℕ, Bool, false, List, [], ◌∷◌, codes, bytes_eq, string_bytes, Option, IfSome, String}
+use Rattle.std.specs.Global.{Global}
+use Rattle.outside_core.specs.Faults.{Rose}
+use Rattle.line_runs.specs.Run.{Reports}
+use Rattle.line_runs.specs.declared.run.Ended.{Ended}
+use Rattle.line_runs.specs.declared.run.Ended.TheVariants as ended
+use Rattle.trace_tool.specs.Replay.{line_step, past_lines, closing_of}
+use Rattle.trace_tool.specs.declared.status.Status.{Status}
+use Rattle.trace_tool.specs.declared.status.Status.TheVariants as status
+
+-- the status of a run that ended so
+abbrev pub status_of : Ended → Status
+status_of ended.Ok = status.Ok
+status_of (ended.BadLine line why) = status.BadTrace line why
+status_of (ended.Unbuilt line) = status.Unbuilt line
+status_of ended.ReadFault = status.ReadFault
+status_of ended.WriteFault = status.WriteFault
+status_of ended.NoMemory = status.NoMemory
+status_of ended.InputTooLong = status.InputTooLong
+
+-- the number that a process ends with
+abbrev pub code_of : Status → ℕ
+code_of status.Ok = 0
+code_of status.Usage = 1
+code_of (status.BadTrace line why) = 2
+code_of status.ReadFault = 3
+code_of status.WriteFault = 4
+code_of status.NoMemory = 5
+code_of status.InputTooLong = 8
+code_of (status.Unbuilt line) = 10
+
+-- the words are those of `replay`
+abbrev pub is_replay : List (String Global) → Bool
+is_replay (word ∷ []) = bytes_eq (string_bytes word) (codes "replay")
+is_replay words = false
+
+-- the run ended so, and wrote what the broker's definitions give for the input
+pub record Replays (left remains held holds : Option (List ℕ)) (answer : Status) : Type 0 where
+  pub ended_as : Ended
+  pub status_is : answer ≡ status_of ended_as
+  pub reports : IfSome left (λ all. Reports (λ past line. line_step (past_lines past) line) (λ past. closing_of (past_lines past)) all left remains held holds ended_as)
+
+-- the source's count never falls, and rose where a read failed
+abbrev pub ReadCause : ℕ → ℕ → Status → Type 0
+ReadCause before now status.ReadFault = (before ≤ now) × Rose before now
+ReadCause before now status.Ok = before ≤ now
+ReadCause before now status.Usage = before ≤ now
+ReadCause before now (status.BadTrace line why) = before ≤ now
+ReadCause before now status.WriteFault = before ≤ now
+ReadCause before now status.NoMemory = before ≤ now
+ReadCause before now status.InputTooLong = before ≤ now
+ReadCause before now (status.Unbuilt line) = before ≤ now
+
+-- the sink's count never falls, and rose where a write failed
+abbrev pub WriteCause : ℕ → ℕ → Status → Type 0
+WriteCause before now status.WriteFault = (before ≤ now) × Rose before now
+WriteCause before now status.Ok = before ≤ now
+WriteCause before now status.Usage = before ≤ now
+WriteCause before now (status.BadTrace line why) = before ≤ now
+WriteCause before now status.ReadFault = before ≤ now
+WriteCause before now status.NoMemory = before ≤ now
+WriteCause before now status.InputTooLong = before ≤ now
+WriteCause before now (status.Unbuilt line) = before ≤ now
