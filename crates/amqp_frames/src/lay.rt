@@ -2,7 +2,7 @@
 ghost use Rattle.std.specs.Prelude.{◌≡◌, ◌++◌, ◌+◌, ◌<◌, ◌≤◌, ◌^◌, length, OnOk};
 ghost use Rattle.amqp_frames.specs.Lay.{laid_frame};
 
-use amqp_values::NoMemory;
+use octet_reading::NoMemory;
 
 /// Puts an assembly of one segment at the text's end, in one frame.
 pub fn push_frame(out: &mut Vec<u8>, kind: u8, channel: u16, payload: &[u8]) -> Result<(), NoMemory>

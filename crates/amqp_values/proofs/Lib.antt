@@ -1,0 +1,4 @@
+pub mod Insides
+pub mod Items
+pub mod Keys
+pub mod Telling

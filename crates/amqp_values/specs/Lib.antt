@@ -1,1 +1,3 @@
-pub mod Words
+pub mod Codes
+pub mod Spelling
+pub mod Values

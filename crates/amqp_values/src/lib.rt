@@ -1,14 +1,21 @@
-//! The plain types that every layer speaks in: octets, texts, values, and the reasons of refusals.
+//! The values of AMQP 0-10, and the plain types that every layer speaks in.
 #![tactic(auto)]
 
-mod memory;
-mod octets;
-mod text;
+mod copy;
+mod fault;
+mod fine;
+mod kind;
+mod read;
+mod size;
+#[cfg(test)]
+mod tests;
 mod value;
-mod why;
+mod write;
 
-pub use memory::NoMemory;
-pub use octets::Octets;
-pub use text::Text;
+pub use fault::{ValueError, ValueFault};
+pub use fine::valid;
+pub use octet_reading::{NoMemory, Octets, Text, Why};
+pub use read::read_value;
+pub use size::size_of;
 pub use value::{Items, Pair, Pairs, Range, Ranges, ReplyTo, Value, Xid};
-pub use why::Why;
+pub use write::write_value;

@@ -1,7 +1,7 @@
 //! The values of AMQP 0-10, "types", and the types that packed structs are made of.
 ghost use Rattle.std.specs.Prelude.{◌≡◌};
 
-use crate::{Octets, Text};
+use octet_reading::{Octets, Text};
 use std::marker::Model;
 
 /// An entry of a map.

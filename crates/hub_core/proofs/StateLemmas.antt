@@ -6,7 +6,7 @@ use Rattle.history_model.specs.Life.{Heard, next}
 use Rattle.history_model.specs.Pairs.{Paired, Both}
 use Rattle.history_model.specs.Standing.{World, is_name, hears_in, hears_control, begins, may_attach, life_of}
 use Rattle.history_model.specs.State.{may_arrive}
-use Rattle.amqp_values.specs.declared.memory.NoMemory.{NoMemory}
+use Rattle.octet_reading.specs.declared.memory.NoMemory.{NoMemory}
 use Rattle.amqp_terms.specs.declared.control.Control.TheVariants.{SessionAttach}
 use Rattle.amqp_terms.specs.declared.event.Out.{Out}
 use Rattle.history_model.specs.Answers.{attach_answers, control_answers}

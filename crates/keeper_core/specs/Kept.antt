@@ -1,5 +1,5 @@
 -- What a keeper in memory tells.
-use Rattle.std.specs.Prelude.{◌≡◌, ◌==◌, true, is_some, ℕ, ◌+◌, ◌-◌, ◌^◌, zero, suc, nat_lt, not, if◌then◌else◌, Bool, List, [], ◌∷◌, ◌++◌, Option, None, Some}
+use Rattle.std.specs.Prelude.{◌≡◌, ◌==◌, true, is_some, ℕ, ◌-◌, ◌^◌, zero, suc, nat_lt, not, if◌then◌else◌, Bool, List, [], ◌∷◌, ◌++◌, Option, None, Some}
 use Rattle.std.specs.List.{list_any}
 use Rattle.keeper_core.specs.declared.row.Row.{Row}
 use Rattle.keeper_core.specs.declared.row.Change.{Change}
@@ -9,13 +9,15 @@ use Rattle.std.specs.BTreeMap.{is_at}
 use Rattle.std.specs.Ordering.{nat_cmp}
 use Rattle.std.specs.Cmp.Lexicographic.{slice_cmp}
 
--- its rows, the answers of its applies, and its counts
+-- its rows, the answers of its applies, its counts, and the numbers of the calls that fail
 pub record Kept : Type 0 where
   pub rows : List Row
   pub answers : Option (List Bool)
   pub list_faults : ℕ
   pub apply_faults : ℕ
   pub writes : ℕ
+  pub failing_applies : List ℕ
+  pub failing_lists : List ℕ
 
 -- the rows of a table, where a key without a content is no row
 abbrev pub rows_in : List (List ℕ × Option (List ℕ)) → List Row

@@ -1,5 +1,5 @@
 -- Rows by rising key, and what changes do to them.
-use Rattle.std.specs.Prelude.{◌≡◌, ℕ, not, bytes_eq, List, [], ◌∷◌, map}
+use Rattle.std.specs.Prelude.{ℕ, not, bytes_eq, List, [], ◌∷◌, map}
 use Rattle.std.specs.Ordering.{nat_cmp, match_ordering}
 use Rattle.std.specs.Cmp.Lexicographic.{slice_cmp}
 use Rattle.std.specs.List.{filter, fold}

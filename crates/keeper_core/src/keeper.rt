@@ -4,7 +4,7 @@ ghost use Rattle.keeper_core.specs.declared.row.Row.{Row};
 ghost use Rattle.keeper_core.specs.Keeper.{Gives, Applies, Answered, Writes, FailsWithCause};
 
 use crate::row::{Changes, Rows};
-use amqp_values::Octets;
+use octet_reading::Octets;
 
 /// Why a keeper didn't do what it was asked. It then changed nothing that it holds.
 #[derive(Clone, Copy, Debug, PartialEq, Eq)]

@@ -7,7 +7,7 @@ ghost use Rattle.keeper_core.specs.Rows.{change_by, changed, IsRising};
 
 use crate::keeper::{Keeper, KeeperFault};
 use crate::row::{Change, Changes, Row, Rows};
-use amqp_values::{NoMemory, Octets};
+use octet_reading::{NoMemory, Octets};
 use outside_core::Calls;
 use std::alloc::Global;
 use std::collections::BTreeMap;
@@ -39,6 +39,8 @@ impl Model for MapKeeper {
       list_faults = k.list_faults;
       apply_faults = k.apply_faults;
       writes = k.writes;
+      failing_applies = k.failing_applies;
+      failing_lists = k.failing_lists;
     } };
 }
 
@@ -52,6 +54,8 @@ impl MapKeeper {
         ensures list_faults { result.list_faults ≡ 0 }
         ensures apply_faults { result.apply_faults ≡ 0 }
         ensures writes { result.writes ≡ 0 }
+        ensures failing_applies { result.failing_applies ≡ applies }
+        ensures failing_lists { result.failing_lists ≡ lists }
     {
         MapKeeper {
             alloc,

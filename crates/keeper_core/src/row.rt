@@ -1,7 +1,7 @@
 //! Rows, and changes of them.
 ghost use Rattle.std.specs.Prelude.{◌≡◌};
 
-use amqp_values::Octets;
+use octet_reading::Octets;
 use std::marker::Model;
 
 /// What a keeper holds under one key.

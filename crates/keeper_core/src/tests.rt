@@ -1,6 +1,6 @@
 //! A keeper in memory, with ample memory.
 use crate::{Calls, Change, Changes, Keeper, KeeperFault, MapKeeper, Row, Rows};
-use amqp_values::Octets;
+use octet_reading::Octets;
 use std::alloc::Global;
 use std::test::Fail;
 

@@ -3,8 +3,8 @@ ghost use Rattle.std.specs.Prelude.{◌≡◌, ◌+◌, ◌<◌, ◌≤◌, ◌^
 ghost use Rattle.line_runs.specs.Breaks.{IsUnbroken, BreaksAtFirst};
 ghost use Rattle.line_runs.specs.Reading.{Looks, ReadsOnto, OntoHasCause, IsReady, Fills, FillHasCause, IsLast, TakesNext, NextHasCause};
 
-use amqp_values::NoMemory;
 use memchr::memchr;
+use octet_reading::NoMemory;
 use outside_core::{ReadAnswer, Source};
 use std::alloc::Global;
 use std::marker::Model;

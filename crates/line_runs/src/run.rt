@@ -5,7 +5,7 @@ ghost use Rattle.line_runs.specs.Tool.{Grows};
 ghost use Rattle.line_runs.specs.Run.{TakesLine, Closes, Reached, ReportsTold, ReadHasCause, WriteHasCause, Turns, MovesOn, KnowsEnd};
 
 use crate::{LineTool, Next, Reading, Stop, TraceWhy, Written, write_all};
-use amqp_values::NoMemory;
+use octet_reading::NoMemory;
 use outside_core::{Sink, Source};
 use std::alloc::Global;
 

@@ -3,7 +3,7 @@ ghost use Rattle.std.specs.Prelude.{◌≡◌, ℕ, ◌++◌, List, Bool, IfOk};
 ghost use Rattle.line_runs.specs.Lines.{LineStep};
 ghost use Rattle.line_runs.specs.Tool.{Grows, StepsBy};
 
-use amqp_values::{NoMemory, Octets};
+use octet_reading::{NoMemory, Octets};
 use std::alloc::Global;
 
 /// Why a line breaks its form, in the order in which the reasons are tried.

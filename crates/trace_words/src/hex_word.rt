@@ -2,8 +2,8 @@
 ghost use Rattle.std.specs.Prelude.{◌≡◌, IfOk};
 ghost use Rattle.trace_words.specs.HexWords.{octets_in};
 
-use amqp_values::{NoMemory, Octets};
 use hex::FromHexError;
+use octet_reading::{NoMemory, Octets};
 use std::alloc::Global;
 
 /// The most octets of a word.

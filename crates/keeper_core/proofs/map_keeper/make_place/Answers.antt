@@ -1,8 +1,5 @@
-use Rattle.std.proofs.Common.{rules, ◌≡◌, ℕ, List, [], ◌++◌, Some, None, IfOk, OnOk, OnErr, ◌+◌, ◌-◌, ◌*◌, ◌<◌, ◌≤◌, length, ◌/◌, ◌%◌, Bool, true, false, nat_eq, nat_lt, ◌∷◌, slice_index_or, slice_set, bit_and, bit_or, Fits, w8, w32, w64, Bor, MutBor}
-use Rattle.keeper_core.specs.Keeper.{one_more}
-use Rattle.keeper_core.specs.Kept.{Kept, rows_in, answers_upto, key_of, HasPlace, HasRoom}
-use Rattle.keeper_core.specs.declared.row.Change.{Change}
-use Rattle.keeper_core.specs.Rows.{change_by, changed}
+use Rattle.std.proofs.Common.{None}
+use Rattle.keeper_core.specs.Kept.{rows_in}
 use Rattle.keeper_core.proofs.map_keeper.make_place.Goals as goal
 use Rattle.keeper_core.proofs.Table.{make_missing, set_stays}
 use Rattle.std.proofs.Common.{ap, sym, ◌∙◌}

@@ -1,7 +1,7 @@
 -- The words of the reasons.
 use Rattle.std.specs.Prelude.{ℕ, List, codes}
-use Rattle.amqp_values.specs.declared.why.Why.{Why}
-use Rattle.amqp_values.specs.declared.why.Why.TheVariants as why
+use Rattle.octet_reading.specs.declared.why.Why.{Why}
+use Rattle.octet_reading.specs.declared.why.Why.TheVariants as why
 
 abbrev pub word_of : Why → List ℕ
 word_of why.Short = codes "Short"

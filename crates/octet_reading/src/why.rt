@@ -1,6 +1,6 @@
 //! The reasons for which octets are refused.
 ghost use Rattle.std.specs.Prelude.{◌≡◌};
-ghost use Rattle.amqp_values.specs.Words.{word_of};
+ghost use Rattle.octet_reading.specs.Words.{word_of};
 
 /// Why octets were refused, or a connection closed. Its word is what `replay` and connection.close say.
 #[derive(Clone, Copy, Debug, PartialEq, Eq)]

@@ -1,0 +1,18 @@
+//! Octets and texts as data, and reading them from left to right with the first flaw.
+#![tactic(auto)]
+
+mod flaw;
+mod memory;
+mod number;
+mod octets;
+mod part;
+mod text;
+mod why;
+
+pub use flaw::{Flaw, ReadError, refused};
+pub use memory::NoMemory;
+pub use number::{u8_of, u16_of, u32_of};
+pub use octets::Octets;
+pub use part::{SizeWidth, octets_of, part_of, sized_of, text_of};
+pub use text::Text;
+pub use why::Why;
