@@ -23,7 +23,7 @@ or_move true b c = refl
 or_move false b c = refl
 
 -- the key of one pair more
-key_more : (pairs : List (Pair Value)) (p : Pair Value) (text : List ℕ) → has_key (pairs ++ p ∷ []) text ≡ (has_key pairs text || bytes_eq p.key text)
+pub key_more : (pairs : List (Pair Value)) (p : Pair Value) (text : List ℕ) → has_key (pairs ++ p ∷ []) text ≡ (has_key pairs text || bytes_eq p.key text)
 key_more [] p text = or_right (bytes_eq p.key text)
 key_more (q ∷ pairs) p text = ap (λ b. bytes_eq q.key text || b) (key_more pairs p text) ∙ or_move (bytes_eq q.key text) (has_key pairs text) (bytes_eq p.key text)
 

@@ -1,4 +1,11 @@
+pub mod Again
+pub mod Cases
+pub mod Found
 pub mod Insides
 pub mod Items
 pub mod Keys
+pub mod Known
+pub mod Public
+pub mod ReadBack
+pub mod Spelled
 pub mod Telling

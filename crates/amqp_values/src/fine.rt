@@ -6,13 +6,11 @@ ghost use Rattle.amqp_values.specs.Codes.{kind};
 ghost use Rattle.amqp_values.specs.Spelling.{Told, told, told_pair, fits, fixed_fine, bin_fine, keys_fine, deepest, deepest_pair, map_told, list_told, array_told, is_valid, counted_upto};
 
 use crate::kind::{Kind, is_array_code, kind_of};
+use crate::read::MOST_LEVELS;
 use crate::size::{items_size, pairs_size, values_size};
 use crate::value::{Pair, Value};
 use crate::write::code_of;
 use octet_reading::{SizeWidth, Text};
-
-/// How many containers may stand on one path.
-const MOST_LEVELS: u64 = 16;
 
 /// Whether a value has a spelling: as many octets as its code wants, sizes and counts within their
 /// width, keys that differ, and at most 16 containers on one path. Takes no memory.
@@ -22,7 +20,7 @@ pub fn valid(value: &Value) -> bool
     ensures { result ≡ is_valid value.now }
 {
     let fine = is_fine(value);
-    fine && levels_of(value) <= MOST_LEVELS
+    fine && levels_of(value) <= u64::from(MOST_LEVELS)
 }
 
 /// Whether so many octets can be counted.

@@ -1,9 +1,11 @@
 //! Values out of octets.
-ghost use Rattle.std.specs.Prelude.{◌≡◌, ◌≤◌, ◌||◌, ℕ, nat_lt, length, drop, [], ◌∷◌, ◌++◌, List, not, IfOk, OnOk};
+ghost use Rattle.std.specs.Prelude.{◌≡◌, ◌+◌, Ok, true, ◌≤◌, ◌||◌, ℕ, nat_lt, length, drop, [], ◌∷◌, ◌++◌, List, not, IfOk, OnOk};
 ghost use Rattle.std.specs.BTreeMap.{is_at};
 ghost use Rattle.std.specs.Cmp.Lexicographic.{slice_cmp};
 ghost use Rattle.std.specs.Ordering.{nat_cmp};
 ghost use Rattle.octet_reading.specs.Reading.{Gives, Within, many_at};
+ghost use Rattle.amqp_values.specs.Spelling.{told, spelling, is_valid};
+ghost use Rattle.amqp_values.specs.declared.value.Value.{Value};
 ghost use Rattle.amqp_values.specs.Values.{item_at, pair_at, has_text, SeesAll, ended, map_in, list_in, array_in, content_in, behind, container_at, fixed_at, boolean_at, inner_at, value_at, Moves, read_at, Answers};
 ghost use Rattle.octet_reading.specs.declared.flaw.Flaw.{Flaw};
 ghost use Rattle.octet_reading.specs.Reading.{check};
@@ -19,12 +21,29 @@ use std::alloc::Global;
 use std::collections::BTreeSet;
 
 /// How many containers may stand on one path.
-const MOST_LEVELS: u8 = 16;
+pub(crate) const MOST_LEVELS: u8 = 16;
 
 /// Reads a value of a type code, from an index on, and gives the index after it.
 ///
 /// Where the index is beyond the octets there are none to read.
 pub fn read_value(
+    alloc: Global,
+    code: u8,
+    octets: &[u8],
+    at: usize,
+) -> Result<(Value, usize), ValueError>
+    // The value, or the first fault.
+    ensures exact { Answers result (read_at code octets.now at) }
+    // What was read is spelled there, and has a spelling.
+    ensures found { IfOk result (λ x. (is_valid x.0 ≡ true) × ((told x.0).code ≡ code) × (drop at octets.now ≡ spelling x.0 ++ drop x.1 octets.now)) }
+    // What is spelled there is read, whatever follows.
+    ensures only { (value : Value) (rest : List ℕ) → is_valid value ≡ true → (told value).code ≡ code → drop at octets.now ≡ spelling value ++ rest
+        → Answers result (Ok (value, at + length (spelling value))) }
+{
+    read_from(alloc, code, octets, at)
+}
+
+fn read_from(
     alloc: Global,
     code: u8,
     octets: &[u8],
@@ -55,10 +74,16 @@ fn octets_from(octets: &[u8], at: usize) -> &[u8]
     }
 }
 
-/// A value of a code, where so many levels of containers are left.
+/// A value of a code, and what follows it, where so many levels of containers are left: 16 for one
+/// that stands in none.
 #[cycle(reading)]
 #[tactic(auto, unfolding(crate::specs::Values::kind_at))]
-fn value_of(alloc: Global, levels: u8, code: u8, octets: &[u8]) -> Result<(Value, &[u8]), ReadError>
+pub fn value_of(
+    alloc: Global,
+    levels: u8,
+    code: u8,
+    octets: &[u8],
+) -> Result<(Value, &[u8]), ReadError>
     ensures gives { Gives (λ x. (x.0, x.1.now)) result (value_at levels code octets.now) }
     ensures within { Within (λ x. x.1.now) (length octets.now) result }
 {

@@ -43,8 +43,8 @@ pub(crate) fn code_of(value: &Value) -> u8
     }
 }
 
-/// Puts a size at the octets' end.
-fn put_size(out: &mut Vec<u8>, width: SizeWidth, size: usize) -> Result<(), NoMemory>
+/// Puts a size at the octets' end. Without memory a part of it may stand there.
+pub fn put_size(out: &mut Vec<u8>, width: SizeWidth, size: usize) -> Result<(), NoMemory>
     requires { fits width size ≡ true }
     ensures { OnOk result (out.new.items ≡ out.old.items ++ to_be_bytes (width_of width) size) }
 {
@@ -56,8 +56,8 @@ fn put_size(out: &mut Vec<u8>, width: SizeWidth, size: usize) -> Result<(), NoMe
     Ok(())
 }
 
-/// Puts octets behind their size.
-fn put_sized(out: &mut Vec<u8>, width: SizeWidth, octets: &[u8]) -> Result<(), NoMemory>
+/// Puts octets behind their size. Without memory a part of them may stand there.
+pub fn put_sized(out: &mut Vec<u8>, width: SizeWidth, octets: &[u8]) -> Result<(), NoMemory>
     requires { fits width (length octets.now) ≡ true }
     ensures { OnOk result (out.new.items ≡ out.old.items ++ sized width octets.now) }
 {
@@ -66,10 +66,10 @@ fn put_sized(out: &mut Vec<u8>, width: SizeWidth, octets: &[u8]) -> Result<(), N
     Ok(())
 }
 
-/// Puts a value's octets, its code left out.
+/// Puts a value's octets, its code left out. Without memory a part of them may stand there.
 #[cycle(writing)]
 #[tactic(auto, using(crate::proofs::Telling::tellings))]
-fn put_value(out: &mut Vec<u8>, value: &Value) -> Result<(), NoMemory>
+pub fn put_value(out: &mut Vec<u8>, value: &Value) -> Result<(), NoMemory>
     requires { IsFine value.now }
     ensures { OnOk result (out.new.items ≡ out.old.items ++ spelling value.now) }
 {

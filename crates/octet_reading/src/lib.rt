@@ -11,7 +11,7 @@ mod why;
 
 pub use flaw::{Flaw, ReadError, refused};
 pub use memory::NoMemory;
-pub use number::{u8_of, u16_of, u32_of};
+pub use number::{u8_of, u16_of, u32_of, u64_of};
 pub use octets::Octets;
 pub use part::{SizeWidth, octets_of, part_of, sized_of, text_of};
 pub use text::Text;

@@ -1,16 +1,12 @@
--- The flaw that was found, by its index.
-use Rattle.std.proofs.Common.{◌≡◌, ◌-◌, Err, length, ap, sym, subst, ◌∙◌}
-use Rattle.std.specs.Prelude.{max}
-use Rattle.octet_reading.specs.declared.flaw.ReadError.{ReadError}
-use Rattle.octet_reading.specs.Reading.{Fails}
-use Rattle.amqp_values.specs.Values.{value_at, index_of}
+-- By the laws of reading.
+use Rattle.std.proofs.Common.{subst, arith}
+use Rattle.amqp_values.specs.Values.{Answers}
+use Rattle.amqp_values.proofs.Public.{read_back, found_in}
 use Rattle.amqp_values.proofs.read.read_value.Goals as goal
 
-pub returns-in-Err-Flaw : goal.returns-in-Err-Flaw
-returns-in-Err-Flaw c =
-    let flaw = c.in-Err-Flaw.flaw in
-    let found : value_at 16 c.args.code c.octets_from-rest.result.now ≡ Err flaw =
-    subst (λ (e : ReadError). Fails e (value_at 16 c.args.code c.octets_from-rest.result.now)) c.in-Err-Flaw.field-0-is c.in-Err-Flaw.ensures.gives in
-    ap (λ octets. index_of (max c.args.at (length c.args.octets.now)) (value_at 16 c.args.code octets)) (sym c.octets_from-rest.ensures)
-    ∙ ap (index_of (max c.args.at (length c.args.octets.now))) found
-    ∙ ap (λ end. Err (record { at = end - flaw.left; why = flaw.why })) (sym c.max-end.ensures)
+pub returns-clause-only : goal.returns-clause-only
+returns-clause-only c = λ value rest valid same there.
+    subst (Answers c.read_from.result) (read_back c.args.code c.args.octets.now c.args.at value rest valid same there) c.read_from.ensures
+
+pub returns-clause-found : goal.returns-clause-found
+returns-clause-found c = found_in c.args.code c.args.octets.now c.args.at c.read_from.result (λ i. omega (arith, c.type_inv.octets i)) c.read_from.ensures
