@@ -1,2 +1,4 @@
 pub mod Loops
 pub mod Sizes
+pub mod Again
+pub mod Found

@@ -1,10 +1,12 @@
 //! Fields out of octets.
-ghost use Rattle.std.specs.Prelude.{◌≡◌, ℕ, ◌+◌, ◌<◌, ◌≤◌, ◌/◌, ◌^◌, length, drop, [], Result, IfOk, if◌then◌else◌};
+ghost use Rattle.std.specs.Prelude.{◌≡◌, ℕ, ◌+◌, ◌<◌, ◌≤◌, ◌/◌, ◌^◌, ◌++◌, List, length, drop, [], Ok, Result, IfOk, if◌then◌else◌};
 ghost use Rattle.std.specs.Option.{option_copied};
 ghost use Rattle.octet_reading.specs.declared.flaw.Flaw.{Flaw};
 ghost use Rattle.amqp_packed.specs.declared.field.Field.{Field};
 ghost use Rattle.octet_reading.specs.Reading.{Gives, Within};
 ghost use Rattle.amqp_packed.specs.Reading.{Reader, flags_at, slot_at, slots_at, fields_at, range_at, ranges_from, ranges_in, ranges_at, plain_at, as_u32, as_octets, as_text, given, xid_of, reply_of, ended, xid_in, reply_in, xid_at, reply_at, field_at, reader, beside, read_at, Answers};
+ghost use Rattle.amqp_packed.specs.Spelling.{packed, AreOf};
+ghost use Rattle.amqp_packed.specs.Spelled.{Packs};
 
 use crate::error::PackError;
 use crate::field::{Field, FieldKind, Fields};
@@ -33,7 +35,27 @@ const REPLY_TO: [FieldKind; 2] = [FieldKind::Str8, FieldKind::Str8];
 /// Reads the fields of a table from an index on, and gives the index after them.
 ///
 /// Where the index is beyond the octets there are none to read. A table has 16 kinds at most.
+/// In an xid and a reply-to an absent field counts as 0 or empty.
 pub fn read_fields(
+    alloc: Global,
+    table: &[FieldKind],
+    octets: &[u8],
+    at: usize,
+) -> Result<(Fields, usize), PackError>
+    requires { length table.now ≤ 16 }
+    // The fields, or the first fault.
+    ensures exact { Answers result (read_at table.now octets.now at) }
+    // What was read fits the table and has a spelling, and octets that spell it stand there.
+    ensures found { IfOk result (λ x. AreOf table.now x.0 × Packs x.0 (drop at octets.now) (drop x.1 octets.now)) }
+    // What fits the table and is written there is read, whatever follows.
+    ensures only { (fields : List Field) (rest : List ℕ) → AreOf table.now fields → drop at octets.now ≡ packed fields ++ rest
+        → Answers result (Ok (fields, at + length (packed fields))) }
+{
+    read_from(alloc, table, octets, at)
+}
+
+/// Reads them, as reading is defined.
+fn read_from(
     alloc: Global,
     table: &[FieldKind],
     octets: &[u8],
