@@ -2,7 +2,7 @@
 use Rattle.std.proofs.Common.{◌≡◌, if◌then◌else◌, ℕ, suc, ◌+◌, ◌-◌, ◌*◌, ◌/◌, ◌%◌, ◌^◌, ◌<◌, ◌≤◌, ◌&&◌, true, eqb, leb, ltb, List, [], ◌∷◌, ◌++◌, length, drop, Result, Ok, refl, sym, ap, subst, ◌∙◌, ◌⊎◌, append_assoc, arith, inl, inr}
 use Rattle.std.specs.Prelude.{min, max}
 use Rattle.std.proofs.Math.Pow.{pow_mono}
-use Rattle.std.proofs.lemmas.Nat.{pow-add, from_be_bytes-to_be_bytes_8}
+use Rattle.std.proofs.lemmas.Nat.{pow-add}
 use Rattle.std.proofs.lemmas.Bool.{and_parts, ltb-true, leb-true, lt-ltb, eqb-true, eq-eqb, cases_lt, ne_eqb}
 use Rattle.std.proofs.lemmas.List.{append-nil, length-append, length-drop}
 use Rattle.std.proofs.lemmas.List.Concat.{flat_map-cons}
@@ -10,23 +10,25 @@ use Rattle.std.specs.Int.{w8, w16, w32, w64, to_be_bytes}
 use Rattle.std.specs.List.{flat_map, list_all}
 use Rattle.std.specs.Str.{is_utf8}
 use Rattle.octet_reading.specs.declared.part.SizeWidth.TheVariants.{One, Two, Four}
+use Rattle.octet_reading.specs.declared.why.Why.{Why}
 use Rattle.octet_reading.specs.declared.why.Why.TheVariants.{ReservedFlag, BadRanges, BadStruct}
 use Rattle.octet_reading.specs.declared.flaw.Flaw.{Flaw}
-use Rattle.octet_reading.specs.Reading.{Taken, ◌>>=◌, check, flaw_at, number_at, part_at}
+use Rattle.octet_reading.specs.Reading.{Taken, ◌>>=◌, check, flaw_at, number_at, part_at, followed, ended}
 use Rattle.amqp_values.specs.declared.value.Range.{Range}
 use Rattle.amqp_values.specs.declared.value.Value.{Value}
 use Rattle.amqp_values.specs.declared.value.Xid.{Xid}
 use Rattle.amqp_values.specs.declared.value.ReplyTo.{ReplyTo}
 use Rattle.amqp_values.specs.Values.{value_at}
-use Rattle.amqp_values.specs.Spelling.{told, spelling, sized, fits, is_valid}
-use Rattle.amqp_values.proofs.Again.{IsWide, wide8, wide16, wide32, number_again, part_again, sized_again, text_again}
+use Rattle.octet_reading.specs.Spelling.{sized, fits}
+use Rattle.amqp_values.specs.Spelling.{told, spelling, is_valid}
+use Rattle.octet_reading.proofs.Again.{wide8, wide16, wide32, wide64, number_again, part_again, sized_again, text_again}
 use Rattle.amqp_values.proofs.ReadBack.{reads}
 use Rattle.amqp_packed.specs.declared.field.FieldKind.{FieldKind}
 use Rattle.amqp_packed.specs.declared.field.FieldKind.TheVariants as k
 use Rattle.amqp_packed.specs.declared.field.Field.{Field}
 use Rattle.amqp_packed.specs.declared.field.Field.TheVariants as f
-use Rattle.amqp_packed.specs.Reading.{Reader, flags_at, slot_at, slots_at, fields_at, range_at, ranges_from, ranges_in, ranges_at, beside, plain_at, field_at, xid_in, xid_at, reply_in, reply_at, ended, xid_of, reply_of, index_of, read_at}
-use Rattle.amqp_packed.specs.Spelling.{range_octets, ranges_octets, range_fine, text_fine, coded, xid_content, reply_content, field_octets, flag_of, flags_of, packed, is_fine, Stands, Alike, AreOf}
+use Rattle.amqp_packed.specs.Reading.{Reader, flags_at, slot_at, slots_at, fields_at, range_at, ranges_from, ranges_in, ranges_at, plain_at, field_at, xid_in, xid_at, reply_in, reply_at, xid_of, reply_of, index_of, read_at, all_fields_at}
+use Rattle.amqp_packed.specs.Spelling.{range_octets, ranges_octets, range_fine, text_fine, coded, xid_content, reply_content, field_octets, flag_of, flags_of, packed, is_fine, Stands, Alike, AreOf, bits}
 use Rattle.amqp_packed.proofs.Sizes.{ranges_length, xid_length, reply_length}
 
 -- ---- flags
@@ -62,6 +64,7 @@ flag_small x = elim (there_or_not x) [
 ]
 
 pub flags_below : (fields : List Field) → flags_of fields < 2 ^ length fields
+unfolding bits
 flags_below [] = omega arith
 flags_below (x ∷ xs) =
     let one_more : length (x ∷ xs) ≡ 1 + length xs = omega arith in
@@ -129,7 +132,7 @@ slot_again one kind x more rest again = elim (there_or_not x) [
 
 slots_again : (one : Reader) (table : List FieldKind) (fields front : List Field) (rest : List ℕ) → Agains one table fields
     → slots_at one table (flags_of fields) front (flat_map field_octets fields ++ rest) ≡ Ok (front ++ fields, rest)
-unfolding slots_at
+unfolding slots_at bits
 slots_again one [] [] front rest h = ap (λ xs. Ok (xs, rest)) (sym (append-nil front))
 slots_again one [] (x ∷ xs) front rest h = absurd (omega (arith, h))
 slots_again one (kind ∷ table) [] front rest h = absurd h
@@ -196,12 +199,9 @@ ranges_back ranges rest fine =
     let all = ranges_octets ranges ++ rest in
     let size : fits Two (length part) ≡ true = lt-ltb _ _ (omega (arith, ranges_length ranges, ltb-true (length ranges) 8192 p.0)) in
     let eight : eqb (length part % 8) 0 ≡ true = eq-eqb (length part % 8) 0 (omega (arith, ranges_length ranges)) in
-    ap (λ r. r >>= λ x. check (eqb (length x.0 % 8) 0) (flaw_at BadRanges all) >>= λ _. beside x.1 (ranges_in x.0)) (sized_again Two part rest size)
-    ∙ ap (λ b. check b (flaw_at BadRanges all) >>= λ _. beside rest (ranges_in part)) eight
-    ∙ ap (beside rest) (ranges_inside ranges p.1)
-
-wide64 : IsWide w64 18446744073709551616
-wide64 = record { len = λ n. refl; again = λ n lt. from_be_bytes-to_be_bytes_8 n lt }
+    ap (λ r. r >>= λ x. check (eqb (length x.0 % 8) 0) (flaw_at BadRanges all) >>= λ _. followed x.1 (ranges_in x.0)) (sized_again Two part rest size)
+    ∙ ap (λ b. check b (flaw_at BadRanges all) >>= λ _. followed rest (ranges_in part)) eight
+    ∙ ap (followed rest) (ranges_inside ranges p.1)
 
 coded_again : (code : ℕ) (value : Value) (rest : List ℕ) → coded code value ≡ true → value_at 16 code (spelling value ++ rest) ≡ Ok (value, rest)
 coded_again code value rest fine =
@@ -298,7 +298,7 @@ xid_table : List FieldKind
 xid_table = k.U32 ∷ k.Vbin8 ∷ k.Vbin8 ∷ []
 
 xid_inside : (xid : Xid) → is_fine (f.Xid xid) ≡ true → xid_in (xid_content xid) ≡ Ok (f.Xid xid)
-unfolding xid_in xid_content inner_xid xid_table
+unfolding xid_in xid_content inner_xid xid_table bits
 xid_inside xid fine =
     let p = and_parts (ltb xid.format 4294967296) (fits One (length xid.global) && fits One (length xid.branch)) fine in
     let q = and_parts (fits One (length xid.global)) (fits One (length xid.branch)) p.1 in
@@ -321,8 +321,8 @@ xid_back xid rest fine =
     let p = and_parts (ltb xid.format 4294967296) (fits One (length xid.global) && fits One (length xid.branch)) fine in
     let q = and_parts (fits One (length xid.global)) (fits One (length xid.branch)) p.1 in
     let size : fits Four (length (xid_content xid)) ≡ true = lt-ltb _ _ (omega (arith, xid_length xid, ltb-true (length xid.global) 256 q.0, ltb-true (length xid.branch) 256 q.1)) in
-    ap (λ r. r >>= λ part. beside part.1 (xid_in part.0)) (sized_again Four (xid_content xid) rest size)
-    ∙ ap (beside rest) (xid_inside xid fine)
+    ap (λ r. r >>= λ part. followed part.1 (xid_in part.0)) (sized_again Four (xid_content xid) rest size)
+    ∙ ap (followed rest) (xid_inside xid fine)
 
 inner_reply : ReplyTo → List Field
 inner_reply reply = f.Str8 reply.exchange ∷ f.Str8 reply.routing_key ∷ []
@@ -331,7 +331,7 @@ reply_table : List FieldKind
 reply_table = k.Str8 ∷ k.Str8 ∷ []
 
 reply_inside : (reply : ReplyTo) → is_fine (f.ReplyTo reply) ≡ true → reply_in (reply_content reply) ≡ Ok (f.ReplyTo reply)
-unfolding reply_in inner_reply reply_table
+unfolding reply_in inner_reply reply_table bits
 reply_inside reply fine =
     let p = and_parts (text_fine One reply.exchange) (text_fine One reply.routing_key) fine in
     let all = packed (inner_reply reply) in
@@ -350,8 +350,8 @@ reply_back reply rest fine =
     let key = and_parts (fits One (length reply.routing_key)) (is_utf8 reply.routing_key) p.1 in
     let size : fits Two (length (reply_content reply)) ≡ true =
     lt-ltb _ _ (omega (arith, reply_length reply, ltb-true (length reply.exchange) 256 exchange.0, ltb-true (length reply.routing_key) 256 key.0)) in
-    ap (λ r. r >>= λ part. beside part.1 (reply_in part.0)) (sized_again Two (reply_content reply) rest size)
-    ∙ ap (beside rest) (reply_inside reply fine)
+    ap (λ r. r >>= λ part. followed part.1 (reply_in part.0)) (sized_again Two (reply_content reply) rest size)
+    ∙ ap (followed rest) (reply_inside reply fine)
 
 -- ---- any field, and all of them
 
@@ -385,11 +385,22 @@ agains_of (kind ∷ table) (x ∷ xs) h fine =
     let p = and_parts (is_fine x) (list_all is_fine xs) fine in
     (field_again kind x h.0 p.0, agains_of table xs h.1 p.1)
 
+-- fields that fit a table and were written are read again
+pub table_again : (table : List FieldKind) (fields : List Field) (rest : List ℕ) → AreOf table fields → fields_at field_at table (packed fields ++ rest) ≡ Ok (fields, rest)
+table_again table fields rest fit = fields_again field_at table fields rest (agains_of table fields fit.0 fit.1)
+
+pub all_fields_again : (why : Why) (table : List FieldKind) (fields : List Field) → AreOf table fields → all_fields_at why table (packed fields) ≡ Ok fields
+unfolding all_fields_at
+all_fields_again why table fields fit =
+    let last : (List Field × List ℕ) → Result (List Field) Flaw = λ x. check (eqb (length x.1) 0) (flaw_at why x.1) >>= λ _. Ok x.0 in
+    ap (λ octets. fields_at field_at table octets >>= last) (sym (append-nil (packed fields)))
+    ∙ ap (λ r. r >>= last) (table_again table fields [] fit)
+
 -- by index: fields that stand at an index are read from there
 pub read_back : (table : List FieldKind) (octets : List ℕ) (at : ℕ) (fields : List Field) (rest : List ℕ) → AreOf table fields → drop at octets ≡ packed fields ++ rest
     → read_at table octets at ≡ Ok (fields, at + length (packed fields))
 read_back table octets at fields rest fit there =
-    let read : fields_at field_at table (drop at octets) ≡ Ok (fields, rest) = ap (fields_at field_at table) there ∙ fields_again field_at table fields rest (agains_of table fields fit.0 fit.1) in
+    let read : fields_at field_at table (drop at octets) ≡ Ok (fields, rest) = ap (fields_at field_at table) there ∙ table_again table fields rest fit in
     let sizes : length octets - at ≡ length (packed fields) + length rest = sym (length-drop at octets) ∙ ap length there ∙ length-append (packed fields) rest in
     let end : max at (length octets) - length rest ≡ at + length (packed fields) = omega (arith, sizes) in
     ap (index_of (max at (length octets))) read ∙ ap (λ n. Ok (fields, n)) end

@@ -2,3 +2,8 @@ pub mod Loops
 pub mod Sizes
 pub mod Again
 pub mod Found
+pub mod Slots
+pub mod Structs
+pub mod Typed
+pub mod Lending
+pub mod Rounds

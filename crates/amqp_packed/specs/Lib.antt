@@ -1,3 +1,5 @@
 pub mod Reading
 pub mod Spelling
 pub mod Spelled
+pub mod Typed
+pub mod Lent

@@ -1,15 +1,16 @@
 -- The fields that octets spell, read from left to right (AMQP 0-10, "packing").
 use Rattle.std.specs.Prelude.{◌≡◌, ℕ, zero, suc, ◌+◌, ◌-◌, ◌*◌, ◌/◌, ◌%◌, ◌^◌, ◌==◌, ◌&&◌, min, max, nat_lt, Bool, true, false, if◌then◌else◌, List, [], ◌∷◌, ◌++◌, length, drop, slice_index, slice_get, Option, None, Some, Result, Ok, Err}
 use Rattle.std.specs.Int.{w8, w16, w32, w64}
-use Rattle.octet_reading.specs.declared.why.Why.TheVariants.{ReservedFlag, BadRanges, BadStruct, SizeDiffers}
+use Rattle.octet_reading.specs.declared.why.Why.{Why}
+use Rattle.octet_reading.specs.declared.why.Why.TheVariants.{ReservedFlag, BadRanges, BadStruct}
 use Rattle.octet_reading.specs.declared.flaw.Flaw.{Flaw}
 use Rattle.octet_reading.specs.declared.part.SizeWidth.TheVariants.{One, Two, Four}
-use Rattle.octet_reading.specs.Reading.{Taken, ◌>>=◌, check, flaw_at, number_at, part_at, sized_at, text_at}
+use Rattle.octet_reading.specs.Reading.{Taken, ◌>>=◌, check, flaw_at, number_at, part_at, sized_at, text_at, ended, followed}
 use Rattle.amqp_values.specs.declared.value.Range.{Range}
 use Rattle.amqp_values.specs.declared.value.Xid.{Xid}
 use Rattle.amqp_values.specs.declared.value.ReplyTo.{ReplyTo}
 use Rattle.amqp_values.specs.declared.fault.ValueFault.{ValueFault}
-use Rattle.amqp_values.specs.Values.{value_at, behind}
+use Rattle.amqp_values.specs.Values.{value_at}
 use Rattle.amqp_packed.specs.declared.field.FieldKind.{FieldKind}
 use Rattle.amqp_packed.specs.declared.field.FieldKind.TheVariants as k
 use Rattle.amqp_packed.specs.declared.field.Field.{Field}
@@ -61,11 +62,6 @@ ranges_from (suc n) front octets = do
   range ← range_at octets
   ranges_from n (front ++ range.0 ∷ []) range.1
 
--- what a part holds, and what follows the part
-abbrev pub beside : List ℕ → Result Field Flaw → Taken Field
-beside rest (Ok field) = Ok (field, rest)
-beside rest (Err flaw) = Err (behind flaw (length rest))
-
 unfoldable pub ranges_in : List ℕ → Result Field Flaw
 ranges_in octets = do
   ranges ← ranges_from (length octets / 8) [] octets
@@ -76,7 +72,7 @@ unfoldable pub ranges_at : List ℕ → Taken Field
 ranges_at octets = do
   part ← sized_at Two octets
   _ ← check (length part.0 % 8 == 0) (flaw_at BadRanges octets)
-  beside part.1 (ranges_in part.0)
+  followed part.1 (ranges_in part.0)
 
 -- a field that has no fields in it
 unfoldable pub plain_at : Reader
@@ -128,17 +124,17 @@ plain_at k.Xid octets = Ok (f.Absent, octets)
 plain_at k.ReplyTo octets = Ok (f.Absent, octets)
 
 -- an absent field counts as 0 or empty
-abbrev pub as_u32 : Field → ℕ
-as_u32 (f.U32 n) = n
-as_u32 field = 0
+abbrev pub u32_or_0 : Field → ℕ
+u32_or_0 (f.U32 n) = n
+u32_or_0 field = 0
 
-abbrev pub as_octets : Field → List ℕ
-as_octets (f.Vbin8 octets) = octets
-as_octets field = []
+abbrev pub octets_or_none : Field → List ℕ
+octets_or_none (f.Vbin8 octets) = octets
+octets_or_none field = []
 
-abbrev pub as_text : Field → List ℕ
-as_text (f.Str8 text) = text
-as_text field = []
+abbrev pub text_or_none : Field → List ℕ
+text_or_none (f.Str8 text) = text
+text_or_none field = []
 
 -- past the end every field is absent
 abbrev pub given : Option Field → Field
@@ -147,13 +143,10 @@ given (Some field) = field
 
 -- the struct that three fields, or two, make
 abbrev pub xid_of : List Field → Xid
-xid_of fields = record { format = as_u32 (given (slice_get fields 0)); global = as_octets (given (slice_get fields 1)); branch = as_octets (given (slice_get fields 2)) }
+xid_of fields = record { format = u32_or_0 (given (slice_get fields 0)); global = octets_or_none (given (slice_get fields 1)); branch = octets_or_none (given (slice_get fields 2)) }
 
 abbrev pub reply_of : List Field → ReplyTo
-reply_of fields = record { exchange = as_text (given (slice_get fields 0)); routing_key = as_text (given (slice_get fields 1)) }
-
-abbrev pub ended : List ℕ → Result (Unit {0}) Flaw
-ended rest = check (length rest == 0) (flaw_at SizeDiffers rest)
+reply_of fields = record { exchange = text_or_none (given (slice_get fields 0)); routing_key = text_or_none (given (slice_get fields 1)) }
 
 -- the class and code of an xid, and its fields
 unfoldable pub xid_in : List ℕ → Result Field Flaw
@@ -174,18 +167,25 @@ reply_in octets = do
 unfoldable pub xid_at : List ℕ → Taken Field
 xid_at octets = do
   part ← sized_at Four octets
-  beside part.1 (xid_in part.0)
+  followed part.1 (xid_in part.0)
 
 unfoldable pub reply_at : List ℕ → Taken Field
 reply_at octets = do
   part ← sized_at Two octets
-  beside part.1 (reply_in part.0)
+  followed part.1 (reply_in part.0)
 
 -- any field
 unfoldable pub field_at : Reader
 field_at k.Xid octets = xid_at octets
 field_at k.ReplyTo octets = reply_at octets
 field_at kind octets = plain_at kind octets
+
+-- fields that take all of the octets; else what is left is wrong for the reason given
+unfoldable pub all_fields_at : Why → List FieldKind → List ℕ → Result (List Field) Flaw
+all_fields_at why table octets = do
+  fields ← fields_at field_at table octets
+  _ ← check (length fields.1 == 0) (flaw_at why fields.1)
+  Ok fields.0
 
 -- inside a field there is no other with fields
 abbrev pub reader : Bool → Reader

@@ -3,7 +3,7 @@ use Rattle.std.specs.Prelude.{◌≡◌, ℕ, ◌/◌, ◌%◌, List, [], ◌∷
 use Rattle.octet_reading.specs.declared.part.SizeWidth.TheVariants.{Two, Four}
 use Rattle.amqp_values.specs.declared.value.Xid.{Xid}
 use Rattle.amqp_values.specs.declared.value.ReplyTo.{ReplyTo}
-use Rattle.amqp_values.specs.Spelling.{sized}
+use Rattle.octet_reading.specs.Spelling.{sized}
 use Rattle.amqp_packed.specs.declared.field.FieldKind.TheVariants as k
 use Rattle.amqp_packed.specs.declared.field.Field.{Field}
 use Rattle.amqp_packed.specs.declared.field.Field.TheVariants as f

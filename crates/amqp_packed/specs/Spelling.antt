@@ -1,5 +1,5 @@
 -- The octets that spell fields (AMQP 0-10, "packing").
-use Rattle.std.specs.Prelude.{◌≡◌, ℕ, ◌+◌, ◌-◌, ◌*◌, ◌/◌, ◌%◌, ◌==◌, ◌&&◌, nat_lt, Bool, true, List, [], ◌∷◌, ◌++◌, length, flat_map}
+use Rattle.std.specs.Prelude.{◌≡◌, ℕ, ◌+◌, ◌-◌, ◌*◌, ◌/◌, ◌%◌, ◌==◌, ◌&&◌, nat_lt, Bool, true, false, if◌then◌else◌, List, [], ◌∷◌, ◌++◌, length, map, flat_map}
 use Rattle.std.specs.Int.{w8, w16, w32, w64, to_be_bytes}
 use Rattle.std.specs.List.{list_all}
 use Rattle.std.specs.Str.{is_utf8}
@@ -9,7 +9,8 @@ use Rattle.amqp_values.specs.declared.value.Range.{Range}
 use Rattle.amqp_values.specs.declared.value.Value.{Value}
 use Rattle.amqp_values.specs.declared.value.Xid.{Xid}
 use Rattle.amqp_values.specs.declared.value.ReplyTo.{ReplyTo}
-use Rattle.amqp_values.specs.Spelling.{told, spelling, sized, fits, is_valid}
+use Rattle.octet_reading.specs.Spelling.{sized, fits}
+use Rattle.amqp_values.specs.Spelling.{told, spelling, is_valid}
 use Rattle.amqp_packed.specs.declared.field.FieldKind.{FieldKind}
 use Rattle.amqp_packed.specs.declared.field.FieldKind.TheVariants as k
 use Rattle.amqp_packed.specs.declared.field.Field.{Field}
@@ -52,18 +53,29 @@ field_octets (f.Struct32 octets) = sized Four octets
 field_octets (f.Xid xid) = sized Four (xid_content xid)
 field_octets (f.ReplyTo reply) = sized Two (reply_content reply)
 
--- the flags of fields, the first the lowest bit
+-- a field is there
+abbrev pub is_there : Field → Bool
+is_there f.Absent = false
+is_there field = true
+
 abbrev pub flag_of : Field → ℕ
-flag_of f.Absent = 0
-flag_of field = 1
+flag_of field = if is_there field then 1 else 0
+
+-- flags that are set or not, the first the lowest bit
+unfoldable pub bits : List Bool → ℕ
+bits [] = 0
+bits (flag ∷ flags) = (if flag then 1 else 0) + 2 * bits flags
 
 abbrev pub flags_of : List Field → ℕ
-flags_of [] = 0
-flags_of (x ∷ xs) = flag_of x + 2 * flags_of xs
+flags_of fields = bits (map is_there fields)
+
+-- flags in two octets
+abbrev pub flag_octets : ℕ → List ℕ
+flag_octets flags = flags % 256 ∷ flags / 256 ∷ []
 
 -- two octets of flags, and the fields that are present
 abbrev pub packed : List Field → List ℕ
-packed fields = flags_of fields % 256 ∷ flags_of fields / 256 ∷ flat_map field_octets fields
+packed fields = flag_octets (flags_of fields) ++ flat_map field_octets fields
 
 -- numbers that rise by less than half of the circle
 abbrev pub range_fine : Range → Bool

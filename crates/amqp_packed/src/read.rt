@@ -1,10 +1,9 @@
 //! Fields out of octets.
 ghost use Rattle.std.specs.Prelude.{◌≡◌, ℕ, ◌+◌, ◌<◌, ◌≤◌, ◌/◌, ◌^◌, ◌++◌, List, length, drop, [], Ok, Result, IfOk, if◌then◌else◌};
 ghost use Rattle.std.specs.Option.{option_copied};
-ghost use Rattle.octet_reading.specs.declared.flaw.Flaw.{Flaw};
 ghost use Rattle.amqp_packed.specs.declared.field.Field.{Field};
 ghost use Rattle.octet_reading.specs.Reading.{Gives, Within};
-ghost use Rattle.amqp_packed.specs.Reading.{Reader, flags_at, slot_at, slots_at, fields_at, range_at, ranges_from, ranges_in, ranges_at, plain_at, as_u32, as_octets, as_text, given, xid_of, reply_of, ended, xid_in, reply_in, xid_at, reply_at, field_at, reader, beside, read_at, Answers};
+ghost use Rattle.amqp_packed.specs.Reading.{Reader, flags_at, slot_at, slots_at, fields_at, range_at, ranges_from, ranges_in, ranges_at, plain_at, u32_or_0, octets_or_none, text_or_none, given, xid_of, reply_of, xid_in, reply_in, xid_at, reply_at, field_at, all_fields_at, reader, read_at, Answers};
 ghost use Rattle.amqp_packed.specs.Spelling.{packed, AreOf};
 ghost use Rattle.amqp_packed.specs.Spelled.{Packs};
 
@@ -14,8 +13,8 @@ use amqp_values::{
     Items, NoMemory, Octets, Range, Ranges, ReplyTo, Text, ValueFault, Xid, value_of,
 };
 use octet_reading::{
-    Flaw, ReadError, SizeWidth, Why, octets_of, part_of, refused, sized_of, text_of, u8_of, u16_of,
-    u32_of, u64_of,
+    ReadError, SizeWidth, Why, end_of, moved, octets_from, octets_of, part_of, refused, sized_of,
+    text_of, u8_of, u16_of, u32_of, u64_of,
 };
 use std::alloc::Global;
 
@@ -66,7 +65,7 @@ fn read_from(
 {
     let rest = octets_from(octets, at);
     let end = at.max(octets.len());
-    match fields_of(alloc, false, table, rest) {
+    match fields_of(alloc, table, rest) {
         Ok((fields, after)) => Ok((fields, end - after.len())),
         Err(ReadError::Memory) => Err(PackError::NoMemory),
         Err(ReadError::Flaw(flaw)) => Err(PackError::Bad(ValueFault {
@@ -76,15 +75,37 @@ fn read_from(
     }
 }
 
-/// The octets from an index on.
-fn octets_from(octets: &[u8], at: usize) -> &[u8]
-    ensures { result.now ≡ drop at octets.now }
+/// The fields of a table of 16 kinds at most, and what follows them.
+pub fn fields_of<'a>(
+    alloc: Global,
+    table: &[FieldKind],
+    octets: &'a [u8],
+) -> Result<(Fields, &'a [u8]), ReadError>
+    requires { length table.now ≤ 16 }
+    ensures gives { Gives (λ x. (x.0, x.1.now)) result (fields_at field_at table.now octets.now) }
+    ensures within { Within (λ x. x.1.now) (length octets.now) result }
 {
-    if at < octets.len() {
-        &octets[at..]
-    } else {
-        &[]
+    packed_of(alloc, false, table, octets)
+}
+
+/// The fields of a table of 16 kinds at most that take all of the octets, and otherwise the reason
+/// for which what is left is wrong.
+#[tactic(auto, unfolding(crate::specs::Reading::all_fields_at))]
+pub fn all_fields_of(
+    alloc: Global,
+    table: &[FieldKind],
+    why: Why,
+    octets: &[u8],
+) -> Result<Fields, ReadError>
+    requires { length table.now ≤ 16 }
+    ensures gives { Gives (λ x. x) result (all_fields_at why table.now octets.now) }
+    ensures within { Within (λ x. []) (length octets.now) result }
+{
+    let (fields, rest) = fields_of(alloc, table, octets)?;
+    if !rest.is_empty() {
+        return Err(refused(why, rest));
     }
+    Ok(fields)
 }
 
 /// Two octets of flags; none is set beyond so many fields.
@@ -161,26 +182,6 @@ fn ranges_of(alloc: Global, octets: &[u8]) -> Result<Vec<Range>, ReadError>
     Ok(ranges)
 }
 
-/// What a part of the octets holds, with what follows the part.
-fn beside<'a>(
-    read: Result<Field, ReadError>,
-    rest: &'a [u8],
-    octets: &[u8],
-) -> Result<(Field, &'a [u8]), ReadError>
-    ensures gives { (field : Result Field Flaw) (limit : ℕ) → Gives (λ x. x) read field → Within (λ x. []) limit read → limit + length rest.now ≤ length octets.now
-        → Gives (λ x. (x.0, x.1.now)) result (beside rest.now field) }
-    ensures within { (limit : ℕ) → Within (λ x. []) limit read → limit + length rest.now ≤ length octets.now → Within (λ x. x.1.now) (length octets.now) result }
-{
-    match read {
-        Ok(field) => Ok((field, rest)),
-        Err(ReadError::Memory) => Err(ReadError::Memory),
-        Err(ReadError::Flaw(flaw)) => Err(ReadError::Flaw(Flaw {
-            left: flaw.left.saturating_add(rest.len()).min(octets.len()),
-            why: flaw.why,
-        })),
-    }
-}
-
 /// Pairs of serials behind the count of their octets.
 #[tactic(auto, unfolding(crate::specs::Reading::ranges_at))]
 fn ranges_field_of(alloc: Global, octets: &[u8]) -> Result<(Field, &[u8]), ReadError>
@@ -191,7 +192,10 @@ fn ranges_field_of(alloc: Global, octets: &[u8]) -> Result<(Field, &[u8]), ReadE
     if part.len() % 8 != 0 {
         return Err(refused(Why::BadRanges, octets));
     }
-    beside(ranges_in(alloc, part), rest, octets)
+    match ranges_in(alloc, part) {
+        Ok(field) => Ok((field, rest)),
+        Err(error) => Err(moved(error, rest.len())),
+    }
 }
 
 /// A field that has no fields in it.
@@ -332,7 +336,7 @@ fn slots_of<'a>(
 /// The flags, and the fields.
 #[cycle(fields)]
 #[tactic(auto, unfolding(crate::specs::Reading::fields_at))]
-fn fields_of<'a>(
+fn packed_of<'a>(
     alloc: Global,
     nested: bool,
     table: &[FieldKind],
@@ -354,7 +358,10 @@ fn xid_field_of(alloc: Global, octets: &[u8]) -> Result<(Field, &[u8]), ReadErro
     ensures within { Within (λ x. x.1.now) (length octets.now) result }
 {
     let (part, rest) = sized_of(SizeWidth::Four, octets)?;
-    beside(xid_in(alloc, part), rest, octets)
+    match xid_in(alloc, part) {
+        Ok(field) => Ok((field, rest)),
+        Err(error) => Err(moved(error, rest.len())),
+    }
 }
 
 /// A reply-to behind its size.
@@ -365,18 +372,9 @@ fn reply_field_of(alloc: Global, octets: &[u8]) -> Result<(Field, &[u8]), ReadEr
     ensures within { Within (λ x. x.1.now) (length octets.now) result }
 {
     let (part, rest) = sized_of(SizeWidth::Two, octets)?;
-    beside(reply_in(alloc, part), rest, octets)
-}
-
-/// Nothing is left.
-fn end_of(rest: &[u8]) -> Result<(), ReadError>
-    ensures gives { Gives (λ x. x) result (ended rest.now) }
-    ensures within { Within (λ x. []) (length rest.now) result }
-{
-    if rest.is_empty() {
-        Ok(())
-    } else {
-        Err(refused(Why::SizeDiffers, rest))
+    match reply_in(alloc, part) {
+        Ok(field) => Ok((field, rest)),
+        Err(error) => Err(moved(error, rest.len())),
     }
 }
 
@@ -391,7 +389,7 @@ fn xid_in(alloc: Global, octets: &[u8]) -> Result<Field, ReadError>
     if !(octets[0] == 6 && octets[1] == 4) {
         return Err(refused(Why::BadStruct, octets));
     }
-    let (fields, rest) = fields_of(alloc, true, XID.as_slice(), rest)?;
+    let (fields, rest) = packed_of(alloc, true, XID.as_slice(), rest)?;
     end_of(rest)?;
     Ok(Field::Xid(made_xid(alloc, fields.as_slice())?))
 }
@@ -403,14 +401,14 @@ fn reply_in(alloc: Global, octets: &[u8]) -> Result<Field, ReadError>
     ensures gives { Gives (λ x. x) result (reply_in octets.now) }
     ensures within { Within (λ x. []) (length octets.now) result }
 {
-    let (fields, rest) = fields_of(alloc, true, REPLY_TO.as_slice(), octets)?;
+    let (fields, rest) = packed_of(alloc, true, REPLY_TO.as_slice(), octets)?;
     end_of(rest)?;
     Ok(Field::ReplyTo(made_reply(alloc, fields.as_slice())?))
 }
 
 /// A number, or 0.
 fn number_in(field: Option<&Field>) -> u32
-    ensures { result ≡ as_u32 (given (option_copied field.entry)) }
+    ensures { result ≡ u32_or_0 (given (option_copied field.entry)) }
 {
     match field {
         Some(Field::U32(number)) => *number,
@@ -420,7 +418,7 @@ fn number_in(field: Option<&Field>) -> u32
 
 /// Octets, or none.
 fn octets_in(alloc: Global, field: Option<&Field>) -> Result<Octets, NoMemory>
-    ensures { IfOk result (λ octets. octets ≡ as_octets (given (option_copied field.entry))) }
+    ensures { IfOk result (λ octets. octets ≡ octets_or_none (given (option_copied field.entry))) }
 {
     match field {
         Some(Field::Vbin8(octets)) => octets.copied(alloc),
@@ -430,7 +428,7 @@ fn octets_in(alloc: Global, field: Option<&Field>) -> Result<Octets, NoMemory>
 
 /// A text, or none.
 fn text_in(alloc: Global, field: Option<&Field>) -> Result<Text, NoMemory>
-    ensures { IfOk result (λ text. text ≡ as_text (given (option_copied field.entry))) }
+    ensures { IfOk result (λ text. text ≡ text_or_none (given (option_copied field.entry))) }
 {
     match field {
         Some(Field::Str8(text)) => text.copied(alloc),

@@ -1,19 +1,22 @@
 //! Octets out of fields.
-ghost use Rattle.std.specs.Prelude.{◌≡◌, ◌++◌, ◌≤◌, ◌<◌, ◌^◌, true, length, flat_map, if◌then◌else◌, OnOk, OnErr};
+ghost use Rattle.std.specs.Prelude.{◌≡◌, ◌++◌, ◌≤◌, ◌<◌, ◌^◌, true, length, flat_map, map, IfOk, OnOk, OnErr};
 ghost use Rattle.octet_reading.specs.declared.part.SizeWidth.TheVariants.{Two, Four};
-ghost use Rattle.amqp_values.specs.Spelling.{fits};
+ghost use Rattle.octet_reading.specs.Spelling.{fits};
 ghost use Rattle.std.specs.List.{list_all};
 ghost use Rattle.amqp_packed.specs.declared.field.Field.TheVariants as TheField;
-ghost use Rattle.amqp_packed.specs.Spelling.{range_octets, ranges_octets, range_fine, xid_content, reply_content, field_octets, flag_of, flags_of, packed, is_fine, AreOf};
+ghost use Rattle.amqp_packed.specs.Spelling.{range_octets, ranges_octets, xid_content, field_octets, is_there, flags_of, flag_octets, packed, is_fine, AreOf};
+ghost use Rattle.amqp_packed.specs.Lent.{lent, lent_fine};
 
 use crate::field::{Field, FieldKind, Fields};
-use amqp_values::{NoMemory, Range, ReplyTo, Xid, put_size, put_sized, put_value};
-use octet_reading::SizeWidth;
+use crate::lent::FieldRef;
+use amqp_values::{NoMemory, Range, ReplyTo, Xid, put_value};
+use octet_reading::{SizeWidth, put, put_size, put_sized};
 use std::alloc::Global;
 
 /// Appends the octets of fields that fit a table of 16 kinds at most and have a spelling.
 ///
 /// Xids and reply-tos are written with all their fields. Without memory nothing is appended.
+#[tactic(auto, using(crate::proofs::Sizes::fields_fit))]
 pub fn write_fields(
     alloc: Global,
     _table: &[FieldKind],
@@ -24,79 +27,102 @@ pub fn write_fields(
     ensures ok { OnOk result (out.new.items ≡ out.old.items ++ packed fields.now) }
     ensures err { OnErr result (out.new.items ≡ out.old.items) }
 {
+    let lent = lent_of(alloc, fields.as_slice())?;
     let mut octets = Vec::new(alloc);
-    put_fields(&mut octets, fields.as_slice())?;
+    put_fields(&mut octets, lent.as_slice())?;
     out.extend_from_slice(octets.as_slice())?;
     Ok(())
 }
 
-/// Puts the flags, and the fields that are present.
-fn put_fields(out: &mut Vec<u8>, fields: &[Field]) -> Result<(), NoMemory>
-    requires { (length fields.now ≤ 16) × (list_all is_fine fields.now ≡ true) }
-    ensures { OnOk result (out.new.items ≡ out.old.items ++ packed fields.now) }
+/// Lends each field.
+fn lent_of(alloc: Global, fields: &[Field]) -> Result<Vec<FieldRef<'_>>, NoMemory>
+    ensures { IfOk result (λ refs. map lent refs.items ≡ fields.now) }
 {
-    let flags = flags_of(fields);
+    let mut refs = Vec::new(alloc);
+    for field in fields {
+        refs.push(FieldRef::of_field(field))?;
+    }
+    Ok(refs)
+}
+
+/// Puts the flags of at most 16 fields that have spellings, and those that are present. Without memory a part
+/// of them may stand there.
+#[tactic(auto, using(crate::proofs::Lending::fine_lent))]
+pub fn put_fields(out: &mut Vec<u8>, fields: &[FieldRef<'_>]) -> Result<(), NoMemory>
+    requires few { length (map lent fields.now) ≤ 16 }
+    requires fine { list_all is_fine (map lent fields.now) ≡ true }
+    ensures { OnOk result (out.new.items ≡ out.old.items ++ packed (map lent fields.now)) }
+{
+    put_flags(out, flags_of(fields))?;
+    put_each(out, fields)
+}
+
+/// Puts flags in two octets.
+fn put_flags(out: &mut Vec<u8>, flags: u16) -> Result<(), NoMemory>
+    ensures { OnOk result (out.new.items ≡ out.old.items ++ flag_octets flags) }
+{
     out.push((flags % 256) as u8)?;
     out.push((flags / 256) as u8)?;
+    Ok(())
+}
+
+/// Puts what stands for each field.
+fn put_each(out: &mut Vec<u8>, fields: &[FieldRef<'_>]) -> Result<(), NoMemory>
+    requires { list_all lent_fine fields.now ≡ true }
+    ensures { OnOk result (out.new.items ≡ out.old.items ++ flat_map field_octets (map lent fields.now)) }
+{
     for field in fields {
-        put_field(out, field)?;
+        put_field(out, *field)?;
     }
     Ok(())
 }
 
 /// Whether a field is there.
-fn is_present(field: &Field) -> bool
-    ensures { (if result then 1 else 0) ≡ flag_of field.now }
+fn is_present(field: FieldRef<'_>) -> bool
+    ensures { result ≡ is_there (lent field.entry) }
 {
-    !matches!(field, Field::Absent)
+    !matches!(field, FieldRef::Absent)
 }
 
 /// The flags of fields, that of the first the lowest bit.
-fn flags_of(fields: &[Field]) -> u16
-    requires { length fields.now ≤ 16 }
-    ensures flags { result ≡ flags_of fields.now }
-    ensures below { result < 2 ^ length fields.now }
+#[tactic(auto, unfolding(crate::specs::Spelling::bits))]
+fn flags_of(fields: &[FieldRef<'_>]) -> u16
+    requires { length (map lent fields.now) ≤ 16 }
+    ensures flags { result ≡ flags_of (map lent fields.now) }
+    ensures below { result < 2 ^ length (map lent fields.now) }
 {
     match fields.split_first() {
         None => 0,
-        Some((field, rest)) => u16::from(is_present(field)) + 2 * flags_of(rest),
+        Some((field, rest)) => u16::from(is_present(*field)) + 2 * flags_of(rest),
     }
 }
 
 /// Puts what stands for a field.
-fn put_field(out: &mut Vec<u8>, field: &Field) -> Result<(), NoMemory>
-    requires { is_fine field.now ≡ true }
-    ensures { OnOk result (out.new.items ≡ out.old.items ++ field_octets field.now) }
+fn put_field(out: &mut Vec<u8>, field: FieldRef<'_>) -> Result<(), NoMemory>
+    requires { lent_fine field ≡ true }
+    ensures { OnOk result (out.new.items ≡ out.old.items ++ field_octets (lent field.entry)) }
 {
     match field {
-        Field::Absent | Field::Bit => Ok(()),
-        Field::U8(number) => put(out, number.to_be_bytes().as_slice()),
-        Field::U16(number) => put(out, number.to_be_bytes().as_slice()),
-        Field::U32(number) => put(out, number.to_be_bytes().as_slice()),
-        Field::U64(number) | Field::Datetime(number) => put(out, number.to_be_bytes().as_slice()),
-        Field::Str8(text) => put_sized(out, SizeWidth::One, text.as_slice()),
-        Field::Str16(text) => put_sized(out, SizeWidth::Two, text.as_slice()),
-        Field::Vbin8(octets) => put_sized(out, SizeWidth::One, octets.as_slice()),
-        Field::Vbin16(octets) => put_sized(out, SizeWidth::Two, octets.as_slice()),
-        Field::Vbin32(octets) | Field::Struct32(octets) => put_sized(
+        FieldRef::Absent | FieldRef::Bit => Ok(()),
+        FieldRef::U8(it) => put(out, it.to_be_bytes().as_slice()),
+        FieldRef::U16(it) => put(out, it.to_be_bytes().as_slice()),
+        FieldRef::U32(it) => put(out, it.to_be_bytes().as_slice()),
+        FieldRef::U64(it) | FieldRef::Datetime(it) => put(out, it.to_be_bytes().as_slice()),
+        FieldRef::Str8(it) => put_sized(out, SizeWidth::One, it.as_slice()),
+        FieldRef::Str16(it) => put_sized(out, SizeWidth::Two, it.as_slice()),
+        FieldRef::Vbin8(it) => put_sized(out, SizeWidth::One, it.as_slice()),
+        FieldRef::Vbin16(it) => put_sized(out, SizeWidth::Two, it.as_slice()),
+        FieldRef::Vbin32(it) | FieldRef::Struct32(it) => put_sized(
             out,
             SizeWidth::Four,
-            octets.as_slice(),
+            it.as_slice(),
         ),
-        Field::Uuid(octets) => put(out, octets.as_slice()),
-        Field::Map(value) | Field::Array(value) => put_value(out, value),
-        Field::Ranges(ranges) => put_ranges(out, ranges.as_slice()),
-        Field::Xid(xid) => put_xid(out, xid),
-        Field::ReplyTo(reply) => put_reply(out, reply),
+        FieldRef::Uuid(it) => put(out, it.as_slice()),
+        FieldRef::Map(it) | FieldRef::Array(it) => put_value(out, it),
+        FieldRef::Ranges(it) => put_ranges(out, it.as_slice()),
+        FieldRef::Xid(it) => put_xid(out, it),
+        FieldRef::ReplyTo(it) => put_reply(out, it),
     }
-}
-
-/// Puts octets at the octets' end.
-fn put(out: &mut Vec<u8>, octets: &[u8]) -> Result<(), NoMemory>
-    ensures { OnOk result (out.new.items ≡ out.old.items ++ octets.now) }
-{
-    out.extend_from_slice(octets)?;
-    Ok(())
 }
 
 /// How many octets pairs have.

@@ -9,7 +9,8 @@ use Rattle.octet_reading.specs.declared.part.SizeWidth.TheVariants.{One, Four}
 use Rattle.amqp_values.specs.Codes.{is_array_code}
 use Rattle.amqp_values.specs.declared.value.Pair.{Pair}
 use Rattle.amqp_values.specs.declared.value.Value.{Value}
-use Rattle.amqp_values.specs.Spelling.{Told, told, told_pair, fits, keys_fine, counted, pairs_octets, items_octets, values_octets, map_told, list_told, array_told, IsFine, IsPairFine}
+use Rattle.octet_reading.specs.Spelling.{fits}
+use Rattle.amqp_values.specs.Spelling.{Told, told, told_pair, keys_fine, counted, pairs_octets, items_octets, values_octets, map_told, list_told, array_told, IsFine, IsPairFine}
 
 each_item : (items : List Value) → list_all (λ (t : Told). t.fine) (map told items) ≡ true → AllByRecursion IsFine items
 each_item [] h = tt

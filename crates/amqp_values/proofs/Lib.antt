@@ -1,6 +1,4 @@
-pub mod Again
 pub mod Cases
-pub mod Found
 pub mod Insides
 pub mod Items
 pub mod Keys

@@ -5,11 +5,11 @@ use Rattle.std.proofs.lemmas.List.{length-append, length-drop, drop-drop, drop_a
 use Rattle.std.specs.Prelude.{max}
 use Rattle.amqp_values.specs.declared.value.Value.{Value}
 use Rattle.amqp_values.specs.Spelling.{told, spelling, is_valid}
-use Rattle.octet_reading.specs.Reading.{Taken}
+use Rattle.octet_reading.specs.Reading.{Taken, IsBytes}
 use Rattle.amqp_values.specs.declared.fault.ValueFault.{ValueFault}
 use Rattle.amqp_values.specs.declared.fault.ValueError.{ValueError}
 use Rattle.amqp_values.specs.Values.{value_at, index_of, read_at, Answers}
-use Rattle.amqp_values.proofs.Found.{IsBytes, IsBytes-drop, Holds}
+use Rattle.octet_reading.proofs.Found.{IsBytes-drop, Holds}
 use Rattle.amqp_values.proofs.Spelled.{ValueIs, finds}
 use Rattle.amqp_values.proofs.ReadBack.{reads}
 

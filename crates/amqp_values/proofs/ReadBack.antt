@@ -11,7 +11,7 @@ use Rattle.std.specs.Str.{is_utf8}
 use Rattle.octet_reading.specs.declared.part.SizeWidth.TheVariants.{One, Two, Four}
 use Rattle.octet_reading.specs.declared.why.Why.TheVariants.{UnknownCode, BadBoolean, RepeatedKey}
 use Rattle.octet_reading.specs.declared.flaw.Flaw.{Flaw}
-use Rattle.octet_reading.specs.Reading.{Taken, ◌>>=◌, check, flaw_at, number_at, part_at, text_at, many_at}
+use Rattle.octet_reading.specs.Reading.{Taken, ◌>>=◌, check, flaw_at, number_at, part_at, text_at, many_at, ended, followed}
 use Rattle.amqp_values.specs.declared.kind.Kind.{Kind}
 use Rattle.amqp_values.specs.declared.kind.Kind.TheVariants as kinds
 use Rattle.amqp_values.specs.declared.kind.Container.{Container}
@@ -20,13 +20,14 @@ use Rattle.amqp_values.specs.declared.value.Pair.{Pair}
 use Rattle.amqp_values.specs.declared.value.Value.{Value}
 use Rattle.amqp_values.specs.declared.value.Value.TheVariants as v
 use Rattle.amqp_values.specs.Codes.{kind, is_known, is_array_code}
-use Rattle.amqp_values.specs.Spelling.{Told, told, told_pair, map_told, list_told, array_told, sized, fits, fixed_fine, bin_fine, bin_octets, item_octets, pair_octets, counted, keys_fine, deepest, deepest_pair}
-use Rattle.amqp_values.specs.Values.{Reader, item_at, pair_at, has_key, ended, map_in, list_in, array_in, content_in, followed, container_at, fixed_at, boolean_at, kind_at, read_by, inner_at, value_at}
+use Rattle.octet_reading.specs.Spelling.{sized, fits}
+use Rattle.amqp_values.specs.Spelling.{Told, told, told_pair, map_told, list_told, array_told, fixed_fine, bin_fine, bin_octets, item_octets, pair_octets, counted, keys_fine, deepest, deepest_pair}
+use Rattle.amqp_values.specs.Values.{Reader, item_at, pair_at, has_key, map_in, list_in, array_in, content_in, container_at, fixed_at, boolean_at, kind_at, read_by, inner_at, value_at}
 use Rattle.amqp_values.proofs.Keys.{key_more}
 use Rattle.amqp_values.proofs.Known.{via, one_of, known, has_octets}
 use Rattle.amqp_values.proofs.Cases.{by_cases}
 use Rattle.amqp_values.proofs.Telling.{told_fixed, told_text8, told_text16, told_bin, told_map, told_list, told_array, told_struct32, told_bare, told_void, told_bit}
-use Rattle.amqp_values.proofs.Again.{number_again, wide32, part_again, sized_again, text_again, Agains, many_again}
+use Rattle.octet_reading.proofs.Again.{number_again, wide32, part_again, sized_again, text_again, Agains, many_again}
 
 -- an octet is read as itself
 pub octet_again : (c : ℕ) (rest : List ℕ) → number_at w8 (c ∷ rest) ≡ Ok (c, rest)

@@ -11,7 +11,7 @@ use Rattle.std.specs.Str.{is_utf8}
 use Rattle.octet_reading.specs.declared.part.SizeWidth.TheVariants.{One, Two, Four}
 use Rattle.octet_reading.specs.declared.why.Why.TheVariants.{UnknownCode, BadBoolean, SizeDiffers, RepeatedKey, TooDeep}
 use Rattle.octet_reading.specs.declared.flaw.Flaw.{Flaw}
-use Rattle.octet_reading.specs.Reading.{Taken, ◌>>=◌, check, flaw_at, number_at, part_at, sized_at, text_at, many_at}
+use Rattle.octet_reading.specs.Reading.{Taken, ◌>>=◌, check, flaw_at, number_at, part_at, sized_at, text_at, many_at, ended, followed, IsBytes}
 use Rattle.amqp_values.specs.declared.kind.Kind.{Kind}
 use Rattle.amqp_values.specs.declared.kind.Kind.TheVariants as kinds
 use Rattle.amqp_values.specs.declared.kind.Container.{Container}
@@ -20,13 +20,14 @@ use Rattle.amqp_values.specs.declared.value.Pair.{Pair}
 use Rattle.amqp_values.specs.declared.value.Value.{Value}
 use Rattle.amqp_values.specs.declared.value.Value.TheVariants as v
 use Rattle.amqp_values.specs.Codes.{kind, is_known, is_array_code}
-use Rattle.amqp_values.specs.Spelling.{Told, told, told_pair, sized, fits, fixed_fine, bin_fine, bin_octets, item_octets, pair_octets, counted, keys_fine, deepest, deepest_pair}
-use Rattle.amqp_values.specs.Values.{item_at, pair_at, has_key, ended, map_in, list_in, array_in, content_in, followed, container_at, fixed_at, boolean_at, kind_at, inner_at, value_at}
+use Rattle.octet_reading.specs.Spelling.{sized, fits}
+use Rattle.amqp_values.specs.Spelling.{Told, told, told_pair, fixed_fine, bin_fine, bin_octets, item_octets, pair_octets, counted, keys_fine, deepest, deepest_pair}
+use Rattle.amqp_values.specs.Values.{item_at, pair_at, has_key, map_in, list_in, array_in, content_in, container_at, fixed_at, boolean_at, kind_at, inner_at, value_at}
 use Rattle.amqp_values.proofs.Telling.{told_fixed, told_text8, told_text16, told_bin, told_map, told_list, told_array, told_struct32, told_bare, told_void, told_bit}
 use Rattle.amqp_values.proofs.Keys.{key_more}
 use Rattle.amqp_values.proofs.Known.{agrees_in, kind_agrees}
 use Rattle.amqp_values.proofs.ReadBack.{flat_told, or_parts}
-use Rattle.amqp_values.proofs.Found.{IsBytes, Holds, holds_bind, holds_map, holds_check, NumberIs, octet_found, count_found, octet_is, PartIs, part_found, SizedIs, sized_found, TextIs, text_found, OneIs, Goods, ManyAre, many_found}
+use Rattle.octet_reading.proofs.Found.{Holds, holds_bind, holds_map, holds_check, NumberIs, octet_found, count_found, octet_is, PartIs, part_found, SizedIs, sized_found, TextIs, text_found, OneIs, Goods, ManyAre, many_found}
 
 both : (a b : Bool) → a ≡ true → b ≡ true → (a && b) ≡ true
 both true b h k = k

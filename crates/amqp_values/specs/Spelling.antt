@@ -1,11 +1,10 @@
 -- The octets that spell a value (AMQP 0-10, "types").
-use Rattle.std.specs.Prelude.{◌≡◌, ℕ, suc, ◌-◌, ◌^◌, ◌==◌, ◌&&◌, ◌||◌, not, max, min, nat_le, nat_lt, Bool, true, false, bytes_eq, List, [], ◌∷◌, ◌++◌, length, map, flat_map, slice_index, Option, Some}
+use Rattle.std.specs.Prelude.{◌≡◌, ℕ, suc, ◌-◌, ◌^◌, ◌==◌, ◌&&◌, ◌||◌, not, max, min, nat_le, Bool, true, false, bytes_eq, List, [], ◌∷◌, ◌++◌, length, map, flat_map, slice_index, Option, Some}
 use Rattle.std.specs.Int.{w32, to_be_bytes}
 use Rattle.std.specs.List.{list_any, list_all}
 use Rattle.std.specs.Str.{is_utf8}
-use Rattle.octet_reading.specs.declared.part.SizeWidth.{SizeWidth}
 use Rattle.octet_reading.specs.declared.part.SizeWidth.TheVariants.{One, Two, Four}
-use Rattle.octet_reading.specs.Reading.{width_of}
+use Rattle.octet_reading.specs.Spelling.{sized, fits}
 use Rattle.amqp_values.specs.declared.kind.Kind.{Kind}
 use Rattle.amqp_values.specs.declared.kind.Kind.TheVariants as kinds
 use Rattle.amqp_values.specs.declared.value.Pair.{Pair}
@@ -20,16 +19,6 @@ pub record Told : Type 0 where
   pub octets : List ℕ
   pub levels : ℕ
   pub fine : Bool
-
--- a size, and the octets
-abbrev pub sized : SizeWidth → List ℕ → List ℕ
-sized width octets = to_be_bytes (width_of width) (length octets) ++ octets
-
--- so many octets can be counted
-abbrev pub fits : SizeWidth → ℕ → Bool
-fits One size = nat_lt size 256
-fits Two size = nat_lt size 65536
-fits Four size = nat_lt size 4294967296
 
 -- a value without values in it
 abbrev pub plain : ℕ → List ℕ → Bool → Told

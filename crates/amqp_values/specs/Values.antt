@@ -1,16 +1,14 @@
 -- The value that octets spell, read from left to right (AMQP 0-10, "types").
-use Rattle.std.specs.Prelude.{◌≡◌, ℕ, zero, suc, ◌+◌, ◌-◌, ◌==◌, ◌^◌, max, min, nat_le, not, Bool, if◌then◌else◌, bytes_eq, List, [], length, drop, slice_index, Option, None, Some, Result, Ok, Err}
+use Rattle.std.specs.Prelude.{◌≡◌, ℕ, zero, suc, ◌-◌, ◌==◌, max, nat_le, not, Bool, if◌then◌else◌, bytes_eq, List, [], length, drop, slice_index, Option, None, Some, Result, Ok, Err}
 use Rattle.std.specs.Int.{w8, w32}
 use Rattle.std.specs.BTreeMap.{is_at}
 use Rattle.std.specs.Cmp.Lexicographic.{slice_cmp}
 use Rattle.std.specs.List.{list_any}
 use Rattle.std.specs.Ordering.{nat_cmp}
-use Rattle.octet_reading.specs.declared.why.Why.TheVariants.{UnknownCode, BadBoolean, SizeDiffers, RepeatedKey, TooDeep}
+use Rattle.octet_reading.specs.declared.why.Why.TheVariants.{UnknownCode, BadBoolean, RepeatedKey, TooDeep}
 use Rattle.octet_reading.specs.declared.flaw.Flaw.{Flaw}
-use Rattle.octet_reading.specs.declared.flaw.ReadError.{ReadError}
-use Rattle.octet_reading.specs.declared.flaw.ReadError.TheVariants as error
 use Rattle.octet_reading.specs.declared.part.SizeWidth.TheVariants.{One, Two, Four}
-use Rattle.octet_reading.specs.Reading.{Taken, ◌>>=◌, check, flaw_at, number_at, part_at, sized_at, text_at, many_at}
+use Rattle.octet_reading.specs.Reading.{Taken, ◌>>=◌, check, flaw_at, number_at, part_at, sized_at, text_at, many_at, ended, followed}
 use Rattle.amqp_values.specs.declared.kind.Kind.{Kind}
 use Rattle.amqp_values.specs.declared.kind.Kind.TheVariants as kinds
 use Rattle.amqp_values.specs.declared.kind.Container.{Container}
@@ -46,10 +44,6 @@ pair_at value front octets = do
   item ← item_at value key.1
   Ok (record { key = key.0; value = item.0 }, item.1)
 
--- nothing is left
-abbrev pub ended : List ℕ → Result (Unit {0}) Flaw
-ended rest = check (length rest == 0) (flaw_at SizeDiffers rest)
-
 -- a count, and so many pairs
 unfoldable pub map_in : Reader → List ℕ → Result Value Flaw
 map_in value octets = do
@@ -81,14 +75,6 @@ abbrev pub content_in : Reader → Container → List ℕ → Result Value Flaw
 content_in value of.Map octets = map_in value octets
 content_in value of.List octets = list_in value octets
 content_in value of.Array octets = array_in value octets
-
--- so many octets follow those in which a flaw was found
-abbrev pub behind : Flaw → ℕ → Flaw
-behind flaw after = record { left = flaw.left + after; why = flaw.why }
-
-abbrev pub followed : List ℕ → Result Value Flaw → Taken Value
-followed rest (Ok value) = Ok (value, rest)
-followed rest (Err flaw) = Err (behind flaw (length rest))
 
 -- a container behind its size; inside none it stands too deep, and one of size 0 has no count
 unfoldable pub container_at : Option Reader → ℕ → Container → List ℕ → Taken Value
@@ -144,11 +130,6 @@ inner_at (suc levels) = Some (read_by (inner_at levels))
 -- a value that stands where so many levels of containers are left
 abbrev pub value_at : ℕ → Reader
 value_at levels = read_by (inner_at levels)
-
--- a flaw is moved by what follows
-abbrev pub Moves : ℕ → ReadError → ReadError → Type 0
-Moves after error.Memory moved = moved ≡ error.Memory
-Moves after (error.Flaw flaw) moved = moved ≡ error.Flaw (record { left = min (flaw.left + after) (2 ^ 64 - 1); why = flaw.why })
 
 -- the text is among the keys, as their table compares them
 abbrev pub has_text : List (List ℕ) → List ℕ → Bool

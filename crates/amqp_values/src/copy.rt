@@ -1,7 +1,7 @@
 //! Copies of values.
 ghost use Rattle.std.specs.Prelude.{◌≡◌, IfOk};
 
-use crate::value::{Items, Pair, Pairs, ReplyTo, Value, Xid};
+use crate::value::{Items, Pair, Pairs, Ranges, ReplyTo, Value, Xid};
 use octet_reading::NoMemory;
 use std::alloc::Global;
 
@@ -86,5 +86,14 @@ impl ReplyTo {
             exchange,
             routing_key,
         })
+    }
+}
+
+impl Ranges {
+    /// A copy, equal to its source.
+    pub fn copied(&self, alloc: Global) -> Result<Ranges, NoMemory>
+        ensures { IfOk result (λ copy. copy ≡ self.now) }
+    {
+        Ok(Ranges::from_vec(Vec::from_slice(alloc, self.as_slice())?))
     }
 }

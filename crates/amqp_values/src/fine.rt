@@ -3,7 +3,8 @@ ghost use Rattle.std.specs.Prelude.{◌≡◌, ◌==◌, ◌&&◌, nat_le, bytes
 ghost use Rattle.std.specs.List.{list_all, list_any};
 ghost use Rattle.std.specs.Str.{is_utf8};
 ghost use Rattle.amqp_values.specs.Codes.{kind};
-ghost use Rattle.amqp_values.specs.Spelling.{Told, told, told_pair, fits, fixed_fine, bin_fine, keys_fine, deepest, deepest_pair, map_told, list_told, array_told, is_valid, counted_upto};
+ghost use Rattle.octet_reading.specs.Spelling.{fits};
+ghost use Rattle.amqp_values.specs.Spelling.{Told, told, told_pair, fixed_fine, bin_fine, keys_fine, deepest, deepest_pair, map_told, list_told, array_told, is_valid, counted_upto};
 
 use crate::kind::{Kind, is_array_code, kind_of};
 use crate::read::MOST_LEVELS;

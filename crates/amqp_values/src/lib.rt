@@ -18,4 +18,4 @@ pub use octet_reading::{NoMemory, Octets, Text, Why};
 pub use read::{read_value, value_of};
 pub use size::size_of;
 pub use value::{Items, Pair, Pairs, Range, Ranges, ReplyTo, Value, Xid};
-pub use write::{put_size, put_sized, put_value, write_value};
+pub use write::{put_value, write_value};

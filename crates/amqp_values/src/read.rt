@@ -3,10 +3,10 @@ ghost use Rattle.std.specs.Prelude.{◌≡◌, ◌+◌, Ok, true, ◌≤◌, ◌
 ghost use Rattle.std.specs.BTreeMap.{is_at};
 ghost use Rattle.std.specs.Cmp.Lexicographic.{slice_cmp};
 ghost use Rattle.std.specs.Ordering.{nat_cmp};
-ghost use Rattle.octet_reading.specs.Reading.{Gives, Within, many_at};
+ghost use Rattle.octet_reading.specs.Reading.{Gives, Within, many_at, ended, behind, Moves};
 ghost use Rattle.amqp_values.specs.Spelling.{told, spelling, is_valid};
 ghost use Rattle.amqp_values.specs.declared.value.Value.{Value};
-ghost use Rattle.amqp_values.specs.Values.{item_at, pair_at, has_text, SeesAll, ended, map_in, list_in, array_in, content_in, behind, container_at, fixed_at, boolean_at, inner_at, value_at, Moves, read_at, Answers};
+ghost use Rattle.amqp_values.specs.Values.{item_at, pair_at, has_text, SeesAll, map_in, list_in, array_in, content_in, container_at, fixed_at, boolean_at, inner_at, value_at, read_at, Answers};
 ghost use Rattle.octet_reading.specs.declared.flaw.Flaw.{Flaw};
 ghost use Rattle.octet_reading.specs.Reading.{check};
 
@@ -14,8 +14,8 @@ use crate::fault::{ValueError, ValueFault};
 use crate::kind::{Container, Kind, is_array_code, is_known, kind_of};
 use crate::value::{Items, Pair, Pairs, Value};
 use octet_reading::{
-    Flaw, NoMemory, Octets, ReadError, SizeWidth, Text, Why, octets_of, part_of, refused, sized_of,
-    text_of, u8_of, u32_of,
+    Flaw, NoMemory, Octets, ReadError, SizeWidth, Text, Why, end_of, moved, octets_from, octets_of,
+    part_of, refused, sized_of, text_of, u8_of, u32_of,
 };
 use std::alloc::Global;
 use std::collections::BTreeSet;
@@ -60,17 +60,6 @@ fn read_from(
             at: end - flaw.left,
             why: flaw.why,
         })),
-    }
-}
-
-/// The octets from an index on.
-fn octets_from(octets: &[u8], at: usize) -> &[u8]
-    ensures { result.now ≡ drop at octets.now }
-{
-    if at < octets.len() {
-        &octets[at..]
-    } else {
-        &[]
     }
 }
 
@@ -143,19 +132,6 @@ fn boolean_of(alloc: Global, code: u8, octets: &[u8]) -> Result<(Value, &[u8]), 
     Ok((Value::Fixed { code, octets }, rest))
 }
 
-/// The flaw of a container's content, seen from what follows the container too.
-fn moved(error: ReadError, after: usize) -> ReadError
-    ensures { Moves after error result }
-{
-    match error {
-        ReadError::Memory => ReadError::Memory,
-        ReadError::Flaw(flaw) => ReadError::Flaw(Flaw {
-            left: flaw.left.saturating_add(after),
-            why: flaw.why,
-        }),
-    }
-}
-
 /// A container behind its size.
 #[cycle(reading)]
 #[tactic(auto, unfolding(crate::specs::Values::container_at))]
@@ -192,18 +168,6 @@ fn content_of(alloc: Global, levels: u8, of: Container, octets: &[u8]) -> Result
         Container::Map => map_of(alloc, levels, octets),
         Container::List => list_of(alloc, levels, octets),
         Container::Array => array_of(alloc, levels, octets),
-    }
-}
-
-/// Nothing is left.
-fn end_of(rest: &[u8]) -> Result<(), ReadError>
-    ensures gives { Gives (λ x. x) result (ended rest.now) }
-    ensures within { Within (λ x. []) (length rest.now) result }
-{
-    if rest.is_empty() {
-        Ok(())
-    } else {
-        Err(refused(Why::SizeDiffers, rest))
     }
 }
 

@@ -2,12 +2,13 @@
 ghost use Rattle.std.specs.Prelude.{◌≡◌, ◌++◌, ◌<◌, ◌^◌, true, length, OnOk, OnErr, All};
 ghost use Rattle.std.specs.Int.{w32, to_be_bytes};
 ghost use Rattle.octet_reading.specs.Reading.{width_of};
-ghost use Rattle.amqp_values.specs.Spelling.{told, spelling, sized, fits, pairs_octets, items_octets, values_octets, map_told, list_told, array_told, IsFine, IsPairFine};
+ghost use Rattle.octet_reading.specs.Spelling.{sized, fits};
+ghost use Rattle.amqp_values.specs.Spelling.{told, spelling, pairs_octets, items_octets, values_octets, map_told, list_told, array_told, IsFine, IsPairFine};
 
 use crate::kind::{Kind, kind_of};
 use crate::size::{items_size, pairs_size, values_size};
 use crate::value::{Pair, Value};
-use octet_reading::{NoMemory, SizeWidth};
+use octet_reading::{NoMemory, SizeWidth, put_size, put_sized};
 use std::alloc::Global;
 
 /// Appends the octets of a value that has a spelling, its code left out.
@@ -41,29 +42,6 @@ pub(crate) fn code_of(value: &Value) -> u8
         Value::Void => 0xf0,
         Value::Bit => 0xf1,
     }
-}
-
-/// Puts a size at the octets' end. Without memory a part of it may stand there.
-pub fn put_size(out: &mut Vec<u8>, width: SizeWidth, size: usize) -> Result<(), NoMemory>
-    requires { fits width size ≡ true }
-    ensures { OnOk result (out.new.items ≡ out.old.items ++ to_be_bytes (width_of width) size) }
-{
-    match width {
-        SizeWidth::One => out.extend_from_slice((size as u8).to_be_bytes().as_slice())?,
-        SizeWidth::Two => out.extend_from_slice((size as u16).to_be_bytes().as_slice())?,
-        SizeWidth::Four => out.extend_from_slice((size as u32).to_be_bytes().as_slice())?,
-    }
-    Ok(())
-}
-
-/// Puts octets behind their size. Without memory a part of them may stand there.
-pub fn put_sized(out: &mut Vec<u8>, width: SizeWidth, octets: &[u8]) -> Result<(), NoMemory>
-    requires { fits width (length octets.now) ≡ true }
-    ensures { OnOk result (out.new.items ≡ out.old.items ++ sized width octets.now) }
-{
-    put_size(out, width, octets.len())?;
-    out.extend_from_slice(octets)?;
-    Ok(())
 }
 
 /// Puts a value's octets, its code left out. Without memory a part of them may stand there.

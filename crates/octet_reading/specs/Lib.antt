@@ -1,2 +1,4 @@
+pub mod Held
 pub mod Reading
+pub mod Spelling
 pub mod Words

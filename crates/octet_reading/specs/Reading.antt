@@ -1,9 +1,9 @@
 -- Reading from left to right, with the first flaw that is met.
-use Rattle.std.specs.Prelude.{◌≡◌, ℕ, zero, suc, ◌+◌, ◌≤◌, Bool, nat_lt, if◌then◌else◌, List, [], ◌∷◌, ◌++◌, length, take, drop, Result, Ok, Err}
+use Rattle.std.specs.Prelude.{◌≡◌, ℕ, zero, suc, ◌+◌, ◌-◌, ◌^◌, ◌==◌, ◌<◌, ◌≤◌, min, Bool, nat_lt, if◌then◌else◌, List, [], ◌∷◌, ◌++◌, length, take, drop, slice_index, Result, Ok, Err}
 use Rattle.std.specs.Int.{Width, w8, w16, w32, byte_len, from_be_bytes}
 use Rattle.std.specs.Str.{is_utf8}
 use Rattle.octet_reading.specs.declared.why.Why.{Why}
-use Rattle.octet_reading.specs.declared.why.Why.TheVariants.{Short, BadText, CountDiffers}
+use Rattle.octet_reading.specs.declared.why.Why.TheVariants.{Short, BadText, SizeDiffers, CountDiffers}
 use Rattle.octet_reading.specs.declared.flaw.Flaw.{Flaw}
 use Rattle.octet_reading.specs.declared.flaw.ReadError.{ReadError}
 use Rattle.octet_reading.specs.declared.flaw.ReadError.TheVariants as error
@@ -79,3 +79,25 @@ many_at one front (suc n) from octets = do
   _ ← check (nat_lt 0 (length octets)) (record { left = from; why = CountDiffers })
   x ← one front octets
   many_at one (front ++ x.0 ∷ []) n from x.1
+
+-- nothing is left
+abbrev pub ended : List ℕ → Result (Unit {0}) Flaw
+ended rest = check (length rest == 0) (flaw_at SizeDiffers rest)
+
+-- so many octets follow those in which a flaw was found
+abbrev pub behind : Flaw → ℕ → Flaw
+behind flaw after = record { left = flaw.left + after; why = flaw.why }
+
+-- what a part holds, and what follows the part
+abbrev pub followed : {A : Type 0} → List ℕ → Result A Flaw → Taken A
+followed rest (Ok x) = Ok (x, rest)
+followed rest (Err flaw) = Err (behind flaw (length rest))
+
+-- a flaw is moved by what follows
+abbrev pub Moves : ℕ → ReadError → ReadError → Type 0
+Moves after error.Memory moved = moved ≡ error.Memory
+Moves after (error.Flaw flaw) moved = moved ≡ error.Flaw (record { left = min (flaw.left + after) (2 ^ 64 - 1); why = flaw.why })
+
+-- each is below 256
+abbrev pub IsBytes : List ℕ → Type 0
+IsBytes octets = (i : ℕ) → slice_index octets i < 256

@@ -1,29 +1,38 @@
-//! A run of octets, owned, compared octet by octet: names of sessions, contents of segments, keys of rows.
+//! A run of octets, owned or shared, compared octet by octet: names of sessions, contents of segments, keys of rows.
 ghost use Rattle.std.specs.Prelude.{◌≡◌, Some, refl, bytes_eq, length, IfOk, IsTrue, ◌↔◌, []};
 ghost use Rattle.std.specs.Ordering.{nat_cmp};
 ghost use Rattle.std.specs.Cmp.{on_equiv, on_total, on_po, on_per, partial_equiv_from_equiv};
 ghost use Rattle.std.specs.Cmp.Lexicographic.{slice_cmp, nat_list_eq_equiv, nat_list_cmp_total, texts_ties, texts_po};
 
 use crate::NoMemory;
+use bytes::Bytes;
 use std::alloc::Global;
 use std::cmp::Ordering;
 use std::marker::Model;
 
-/// Octets that contracts see as a list of numbers below 256.
-#[derive(Debug, Drop)]
+/// Octets that contracts see as a list of numbers below 256. Those made of `Bytes` share them with
+/// every copy; others are copied.
+#[derive(Debug)]
 pub struct Octets {
-    items: Vec<u8>,
+    held: Held,
+}
+
+#[derive(Debug, Drop)]
+enum Held {
+    Own(Vec<u8>),
+    Shared(Bytes),
 }
 
 impl Model for Octets {
     ghost use Rattle.std.specs.Prelude.{ℕ, List};
     ghost use Rattle.std.specs.Coded.{coded_list, coded_ℕ};
+    ghost use Rattle.octet_reading.specs.Held.{octets_held};
 
     ghost Value = { List ℕ };
 
     ghost coded = { coded_list coded_ℕ };
 
-    ghost view = { λ o. o.items.items };
+    ghost view = { λ o. octets_held o.held };
 }
 
 impl Octets {
@@ -31,24 +40,49 @@ impl Octets {
     pub fn new(alloc: Global) -> Octets
         ensures { result ≡ [] }
     {
-        Octets {
-            items: Vec::new(alloc),
-        }
+        Octets::from_vec(Vec::new(alloc))
     }
 
     /// Takes a vector over. Takes no memory.
     pub fn from_vec(items: Vec<u8>) -> Octets
         ensures { result ≡ items.items }
     {
-        Octets { items }
+        Octets {
+            held: Held::Own(items),
+        }
     }
 
-    /// Gives the vector back. Takes no memory.
-    pub fn into_vec(self) -> Vec<u8>
-        ensures { result.items ≡ self }
+    /// Takes shared octets over. Takes no memory.
+    pub fn from_bytes(bytes: Bytes) -> Octets
+        ensures { result ≡ bytes }
     {
-        let Octets { items } = self;
-        items
+        Octets {
+            held: Held::Shared(bytes),
+        }
+    }
+
+    /// Gives the octets up to be shared; none is copied.
+    pub fn into_bytes(self) -> Result<Bytes, NoMemory>
+        ensures { IfOk result (λ bytes. bytes ≡ self) }
+    {
+        let Octets { held } = self;
+        match held {
+            Held::Own(items) => match Bytes::from_vec(items) {
+                Ok(bytes) => Ok(bytes),
+                Err(_) => Err(NoMemory),
+            },
+            Held::Shared(bytes) => Ok(bytes),
+        }
+    }
+
+    /// The octets, shared; those that aren't yet are copied.
+    pub fn to_bytes(&self, alloc: Global) -> Result<Bytes, NoMemory>
+        ensures { IfOk result (λ bytes. bytes ≡ self.now) }
+    {
+        match &self.held {
+            Held::Own(items) => Ok(Bytes::copy_from_slice(alloc, items.as_slice())?),
+            Held::Shared(bytes) => Ok(bytes.clone()?),
+        }
     }
 
     /// A copy of octets that are lent.
@@ -56,35 +90,49 @@ impl Octets {
         ensures { IfOk result (λ copy. copy ≡ octets.now) }
     {
         let items = Vec::from_slice(alloc, octets)?;
-        Ok(Octets { items })
+        Ok(Octets::from_vec(items))
     }
 
-    /// A copy, equal to its source.
+    /// A copy, equal to its source. Shared octets are shared once more.
     pub fn copied(&self, alloc: Global) -> Result<Octets, NoMemory>
         ensures { IfOk result (λ copy. copy ≡ self.now) }
     {
-        Octets::from_slice(alloc, self.as_slice())
+        match &self.held {
+            Held::Own(items) => Octets::from_slice(alloc, items.as_slice()),
+            Held::Shared(bytes) => Ok(Octets::from_bytes(bytes.clone()?)),
+        }
     }
 
     /// The octets, lent.
     pub fn as_slice(&self) -> &[u8]
         ensures { result.now ≡ self.now }
     {
-        self.items.as_slice()
+        match &self.held {
+            Held::Own(items) => items.as_slice(),
+            Held::Shared(bytes) => bytes.as_slice(),
+        }
     }
 
     /// How many octets there are.
     pub fn len(&self) -> usize
         ensures { result ≡ length self.now }
     {
-        self.items.len()
+        self.as_slice().len()
     }
 
     /// Whether there are none.
     pub fn is_empty(&self) -> bool
         ensures { IsTrue result ↔ (self.now ≡ []) }
     {
-        self.items.is_empty()
+        self.as_slice().is_empty()
+    }
+}
+
+// By hand, so that whoever lets octets go has one call to prove and not a case for each way of holding them.
+impl Drop for Octets {
+    fn drop(self) {
+        let Octets { held } = self;
+        drop(held);
     }
 }
 

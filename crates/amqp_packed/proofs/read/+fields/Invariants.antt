@@ -17,8 +17,8 @@ decreases-slot_of l = depth l.nested + 1
 abbrev pub decreases-slots_of : goal.decreases-slots_of
 decreases-slots_of l = depth l.nested + 2
 
-abbrev pub decreases-fields_of : goal.decreases-fields_of
-decreases-fields_of l = depth l.nested + 3
+abbrev pub decreases-packed_of : goal.decreases-packed_of
+decreases-packed_of l = depth l.nested + 3
 
 abbrev pub decreases-xid_in : goal.decreases-xid_in
 decreases-xid_in l = 4

@@ -2,7 +2,7 @@
 use Rattle.std.proofs.Common.{subst, arith}
 use Rattle.amqp_packed.specs.Reading.{Answers}
 use Rattle.amqp_packed.proofs.Again.{read_back}
-use Rattle.amqp_packed.proofs.Found.{found_in}
+use Rattle.amqp_packed.proofs.Structs.{found_in}
 use Rattle.amqp_packed.proofs.read.read_fields.Goals as goal
 
 pub returns-clause-only : goal.returns-clause-only

@@ -3,7 +3,7 @@ use Rattle.std.proofs.Common.{◌≡◌, ◌&&◌, Bool, true, false, length, ap
 use Rattle.std.specs.Prelude.{IsUtf8}
 use Rattle.std.specs.Str.{is_utf8}
 use Rattle.std.proofs.lemmas.Str.{is_utf8-from_IsUtf8}
-use Rattle.amqp_values.specs.Spelling.{fits}
+use Rattle.octet_reading.specs.Spelling.{fits}
 use Rattle.amqp_values.proofs.fine.text_fits.Goals as goal
 
 and_true : (b : Bool) → (b && true) ≡ b

@@ -1,17 +1,17 @@
 -- What is spelled is read again, whatever follows: numbers, parts, texts, and items.
 use Rattle.std.proofs.Common.{◌≡◌, if◌then◌else◌, ℕ, ◌+◌, ◌<◌, true, false, ltb, List, [], ◌∷◌, ◌++◌, length, Ok, Err, refl, sym, ap, ◌∙◌, append_assoc, arith}
-use Rattle.std.specs.Int.{Width, w8, w16, w32, byte_len, from_be_bytes, to_be_bytes}
+use Rattle.std.specs.Int.{Width, w8, w16, w32, w64, byte_len, from_be_bytes, to_be_bytes}
 use Rattle.std.specs.List.{flat_map}
 use Rattle.std.specs.Str.{is_utf8}
 use Rattle.std.proofs.lemmas.Bool.{ltb-true, le-ltb, lt-ltb}
 use Rattle.std.proofs.lemmas.List.{take_at, drop_at, length-append, append-nil}
 use Rattle.std.proofs.lemmas.List.Concat.{flat_map-cons}
-use Rattle.std.proofs.lemmas.Nat.{from_be_bytes-to_be_bytes_2, from_be_bytes-to_be_bytes_4}
+use Rattle.std.proofs.lemmas.Nat.{from_be_bytes-to_be_bytes_2, from_be_bytes-to_be_bytes_4, from_be_bytes-to_be_bytes_8}
 use Rattle.octet_reading.specs.declared.part.SizeWidth.{SizeWidth}
 use Rattle.octet_reading.specs.declared.part.SizeWidth.TheVariants.{One, Two, Four}
 use Rattle.octet_reading.specs.declared.why.Why.TheVariants.{BadText, CountDiffers}
 use Rattle.octet_reading.specs.Reading.{Taken, ◌>>=◌, check, number_at, part_at, width_of, size_at, sized_at, text_at, many_at}
-use Rattle.amqp_values.specs.Spelling.{sized, fits}
+use Rattle.octet_reading.specs.Spelling.{sized, fits}
 
 -- numbers below a limit have one spelling of that width
 pub record IsWide (w : Width) (limit : ℕ) : Type 0 where
@@ -26,6 +26,9 @@ wide16 = record { len = λ n. refl; again = λ n lt. from_be_bytes-to_be_bytes_2
 
 pub wide32 : IsWide w32 4294967296
 wide32 = record { len = λ n. refl; again = λ n lt. from_be_bytes-to_be_bytes_4 n lt }
+
+pub wide64 : IsWide w64 18446744073709551616
+wide64 = record { len = λ n. refl; again = λ n lt. from_be_bytes-to_be_bytes_8 n lt }
 
 pub number_again : (w : Width) (limit : ℕ) (wide : IsWide w limit) (n : ℕ) (rest : List ℕ) → n < limit → number_at w (to_be_bytes w n ++ rest) ≡ Ok (n, rest)
 number_again w limit wide n rest lt =

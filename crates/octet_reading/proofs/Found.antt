@@ -1,22 +1,18 @@
 -- What is read is spelled so: numbers, parts, texts, and items.
-use Rattle.std.proofs.Common.{◌≡◌, if◌then◌else◌, ℕ, zero, suc, ◌+◌, ◌<◌, ◌≤◌, Bool, true, false, ltb, List, [], ◌∷◌, ◌++◌, length, take, drop, get_or, Result, Ok, Err, refl, sym, ap, ◌∙◌, append_assoc, arith, inl, inr}
+use Rattle.std.proofs.Common.{◌≡◌, if◌then◌else◌, ℕ, zero, suc, ◌+◌, ◌<◌, ◌≤◌, Bool, true, false, ltb, List, [], ◌∷◌, ◌++◌, length, take, drop, Result, Ok, Err, refl, sym, ap, ◌∙◌, append_assoc, arith, inl, inr}
 use Rattle.std.proofs.lemmas.Bool.{cases_lt, ltb-false, lt-ltb}
 use Rattle.std.proofs.lemmas.List.{append-nil, length-take, take-append-drop, get_or-drop, get_or-take, get_or_past}
 use Rattle.std.proofs.lemmas.List.Concat.{flat_map-cons}
-use Rattle.std.proofs.lemmas.Nat.{be_bytes_2, be_bytes_4}
-use Rattle.std.specs.Int.{Width, w8, w16, w32, byte_len, from_be_bytes, to_be_bytes}
+use Rattle.std.proofs.lemmas.Nat.{be_bytes_2, be_bytes_4, be_bytes_8}
+use Rattle.std.specs.Int.{Width, w8, w16, w32, w64, byte_len, from_be_bytes, to_be_bytes}
 use Rattle.std.specs.List.{flat_map}
 use Rattle.std.specs.Str.{is_utf8}
 use Rattle.octet_reading.specs.declared.part.SizeWidth.{SizeWidth}
 use Rattle.octet_reading.specs.declared.part.SizeWidth.TheVariants.{One, Two, Four}
 use Rattle.octet_reading.specs.declared.why.Why.TheVariants.{Short, BadText, CountDiffers}
 use Rattle.octet_reading.specs.declared.flaw.Flaw.{Flaw}
-use Rattle.octet_reading.specs.Reading.{Taken, ◌>>=◌, check, flaw_at, number_at, part_at, width_of, size_at, sized_at, text_at, many_at}
-use Rattle.amqp_values.specs.Spelling.{sized, fits}
-
--- each is an octet
-abbrev pub IsBytes : List ℕ → Type 0
-IsBytes octets = (i : ℕ) → get_or octets i 0 < 256
+use Rattle.octet_reading.specs.Reading.{Taken, ◌>>=◌, check, flaw_at, number_at, part_at, width_of, size_at, sized_at, text_at, many_at, IsBytes}
+use Rattle.octet_reading.specs.Spelling.{sized, fits}
 
 pub IsBytes-drop : (n : ℕ) (octets : List ℕ) → IsBytes octets → IsBytes (drop n octets)
 IsBytes-drop n octets h i = rw get_or-drop (h (n + i))
@@ -64,6 +60,12 @@ exact16 = record { back = λ octets len fits. be_bytes_2 octets _ len fits refl;
 exact32 : IsExact w32 4294967296
 exact32 = record { back = λ octets len fits. be_bytes_4 octets _ len fits refl; below = λ octets fits. omega (arith, fits 0, fits 1, fits 2, fits 3) }
 
+exact64 : IsExact w64 18446744073709551616
+exact64 = record {
+  back = λ octets len fits. be_bytes_8 octets _ len fits refl;
+  below = λ octets fits. omega (arith, fits 0, fits 1, fits 2, fits 3, fits 4, fits 5, fits 6, fits 7);
+}
+
 pub record NumberIs (w : Width) (limit : ℕ) (octets : List ℕ) (x : ℕ × List ℕ) : Type 0 where
   pub parts : octets ≡ to_be_bytes w x.0 ++ x.1
   pub low : x.0 < limit
@@ -86,8 +88,14 @@ number_found w limit exact octets bytes = by (ltb (length octets) (byte_len w)) 
 pub octet_found : (octets : List ℕ) → IsBytes octets → Holds (NumberIs w8 256 octets) (number_at w8 octets)
 octet_found = number_found w8 256 exact8
 
+pub pair_found : (octets : List ℕ) → IsBytes octets → Holds (NumberIs w16 65536 octets) (number_at w16 octets)
+pair_found = number_found w16 65536 exact16
+
 pub count_found : (octets : List ℕ) → IsBytes octets → Holds (NumberIs w32 4294967296 octets) (number_at w32 octets)
 count_found = number_found w32 4294967296 exact32
+
+pub eight_found : (octets : List ℕ) → IsBytes octets → Holds (NumberIs w64 18446744073709551616 octets) (number_at w64 octets)
+eight_found = number_found w64 18446744073709551616 exact64
 
 -- one octet's spelling is itself
 pub octet_is : (c : ℕ) → c < 256 → to_be_bytes w8 c ≡ c ∷ []

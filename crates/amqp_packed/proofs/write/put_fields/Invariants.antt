@@ -1,7 +1,0 @@
--- The fields so far.
-use Rattle.std.proofs.Common.{◌≡◌, ◌++◌, take, flat_map}
-use Rattle.amqp_packed.specs.Spelling.{field_octets}
-use Rattle.amqp_packed.proofs.write.put_fields.Given as goal
-
-abbrev pub invariant-loop-field : goal.invariant-loop-field
-invariant-loop-field l = l.out.items ≡ l.initial.out.items ++ flat_map field_octets (take l.field-index l.fields)
