@@ -1,5 +1,5 @@
 -- The header of a frame that is an assembly by itself (AMQP 0-10, "transport", "frames").
-use Rattle.std.specs.Prelude.{ℕ, ◌+◌, ◌*◌, ◌==◌, ◌&&◌, nat_le, Bool, if◌then◌else◌, List, length, take, drop, slice_index, Option, None, Some}
+use Rattle.std.specs.Prelude.{ℕ, ◌==◌, ◌&&◌, nat_le, Bool, if◌then◌else◌, List, length, take, drop, slice_index, Option, None, Some}
 use Rattle.std.specs.Int.{w16, from_be_bytes}
 use Rattle.amqp_frames.specs.declared.head.FrameHead.{FrameHead}
 

@@ -5,10 +5,11 @@ mod command;
 mod content;
 mod control;
 mod event;
+mod field;
 mod unit;
 
 pub use command::Command;
 pub use content::{Content, DeliveryProperties, Header, HeaderItem, MessageProperties};
 pub use control::Control;
 pub use event::{HubEvent, Out, Outs, discard_event, discard_units, send, send_alone};
-pub use unit::Unit;
+pub use unit::{Unit, Units};

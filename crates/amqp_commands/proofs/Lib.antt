@@ -1,0 +1,4 @@
+pub mod Sound
+pub mod Known
+pub mod Again
+pub mod Found

@@ -1,0 +1,4 @@
+pub mod Kinds
+pub mod Terms
+pub mod Units
+pub mod Spelled

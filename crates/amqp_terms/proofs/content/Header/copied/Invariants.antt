@@ -1,0 +1,6 @@
+-- The structs so far.
+use Rattle.std.proofs.Common.{◌≡◌, take}
+use Rattle.amqp_terms.proofs.content.Header.copied.Given as goal
+
+abbrev pub invariant-loop-item : goal.invariant-loop-item
+invariant-loop-item l = l.copy ≡ take l.item-index l.self
