@@ -1,28 +1,32 @@
 -- A frame's header lies within the octets.
-use Rattle.std.proofs.Common.{◌≡◌, ℕ, ◌+◌, ◌-◌, ◌≤◌, ◌&&◌, leb, eqb, Bool, true, false, List, length, take, drop, Option, None, Some, get_or, cond, ◌∙◌, ap, sym, subst, refl, arith}
+use Rattle.std.proofs.Common.{◌≡◌, ℕ, zero, suc, [], ◌∷◌, ◌-◌, ◌≤◌, ◌&&◌, leb, eqb, Bool, true, false, List, length, take, drop, Option, None, Some, get_or, cond, ◌∙◌, ap, sym, subst, refl, arith}
 use Rattle.std.proofs.lemmas.Bool.{and_parts, leb-true}
 use Rattle.std.proofs.lemmas.List.{drop-take}
-use Rattle.std.specs.Str.{is_utf8}
 use Rattle.amqp_terms.specs.declared.unit.Unit.{Unit as AnyUnit}
-use Rattle.amqp_terms.specs.declared.unit.Unit.TheVariants as unit
-use Rattle.amqp_terms.specs.declared.command.Command.TheVariants.{QueueDeclare}
-use Rattle.history_model.specs.Units.{unit_in, declares}
-use Rattle.history_model.specs.Trace.{first_unit, came_by, came_in}
+use Rattle.broker_engine.specs.Units.{unit_in}
+use Rattle.broker_engine.specs.Trace.{first_unit, came_by, came_in}
 use Rattle.amqp_frames.specs.declared.head.FrameHead.{FrameHead}
+use Rattle.amqp_frames.specs.Assembly.{IsPlaced}
 use Rattle.amqp_frames.specs.Head.{head_of, is_plain, is_fit, size_in, channel_in}
 
 -- what a header that is there says of its size
 pub record Within (octets : List ℕ) (head : FrameHead) : Type 0 where
   pub low : 12 ≤ head.size
   pub high : head.size ≤ length octets
+  pub kind : head.kind ≤ 1
 
-fit_within : (octets : List ℕ) → is_fit octets ≡ true → (12 ≤ size_in octets) × (size_in octets ≤ length octets)
+record Fits (octets : List ℕ) : Type 0 where
+  pub low : 12 ≤ size_in octets
+  pub high : size_in octets ≤ length octets
+  pub kind : get_or octets 1 0 ≤ 1
+
+fit_within : (octets : List ℕ) → is_fit octets ≡ true → Fits octets
 fit_within octets h =
     let a = and_parts (leb (get_or octets 1 0) 1) _ h in
     let b = and_parts (eqb (get_or octets 5 0) (get_or octets 1 0)) _ a.1 in
     let d = and_parts (leb (channel_in octets) 63) _ b.1 in
     let e = and_parts (leb 12 (size_in octets)) (leb (size_in octets) (length octets)) d.1 in
-    (leb-true 12 (size_in octets) e.0, leb-true (size_in octets) (length octets) e.1)
+    record { low = leb-true 12 (size_in octets) e.0; high = leb-true (size_in octets) (length octets) e.1; kind = leb-true (get_or octets 1 0) 1 a.0 }
 
 pub head_within : (octets : List ℕ) (head : FrameHead) → Some head ≡ head_of octets → Within octets head
 unfolding head_of
@@ -33,7 +37,11 @@ head_within octets head e = by_test (is_plain octets && is_fit octets) refl
         let sizes = fit_within octets (and_parts (is_plain octets) (is_fit octets) t).1 in
         let is : Some head ≡ Some (record { kind = get_or octets 1 0; channel = channel_in octets; size = size_in octets }) = e ∙ ap (λ b. cond b (Some (record { kind = get_or octets 1 0; channel = channel_in octets; size = size_in octets })) None) t in
         let same : head ≡ record { kind = get_or octets 1 0; channel = channel_in octets; size = size_in octets } = cc is in
-        record { low = subst (λ (h : FrameHead). 12 ≤ h.size) (sym same) sizes.0; high = subst (λ (h : FrameHead). h.size ≤ length octets) (sym same) sizes.1 }
+        record {
+          low = subst (λ (h : FrameHead). 12 ≤ h.size) (sym same) sizes.low;
+          high = subst (λ (h : FrameHead). h.size ≤ length octets) (sym same) sizes.high;
+          kind = subst (λ (h : FrameHead). h.kind ≤ 1) (sym same) sizes.kind;
+        }
     by_test false f =
         let is : Some head ≡ None = e ∙ ap (λ b. cond b (Some (record { kind = get_or octets 1 0; channel = channel_in octets; size = size_in octets })) None) f in
         absurd (cc is)
@@ -46,11 +54,8 @@ first_is piece head found e w u =
     ap (λ n. drop 12 (take n piece)) (omega (arith, w.low)) ∙ drop-take 12 (head.size - 12) piece in
     ap (came_by piece) (sym e) ∙ ap (came_in head) (ap (unit_in head.kind) same ∙ sym u)
 
--- a declare of a text, and none of other octets
-pub declares_text : (name text : List ℕ) → text ≡ name → is_utf8 name ≡ true → Some (unit.Command false (QueueDeclare (Some text) None false false false false None) None) ≡ declares name
-declares_text name text e t =
-    ap (λ n. Some (unit.Command false (QueueDeclare (Some n) None false false false false None) None)) e
-    ∙ sym (ap (λ b. cond b (Some (unit.Command false (QueueDeclare (Some name) None false false false false None) None)) None) t)
-
-pub declares_none : (name : List ℕ) → is_utf8 name ≡ false → None ≡ declares name
-declares_none name f = sym (ap (λ b. cond b (Some (unit.Command false (QueueDeclare (Some name) None false false false false None) None)) None) f)
+-- one segment of type 0 or 1 is placed
+pub alone_placed : (kind : ℕ) (octets : List ℕ) → kind ≤ 1 → IsPlaced (record { kind = kind; octets = octets } ∷ [])
+alone_placed zero octets le = refl
+alone_placed (suc zero) octets le = refl
+alone_placed (suc (suc kind)) octets le = absurd (omega (arith, le))

@@ -1,7 +1,7 @@
 -- What a piece of octets gives.
-use Rattle.std.specs.Prelude.{◌≡◌, ℕ, ◌<◌, ◌≤◌, List, [], ◌∷◌, length, Option, None, Some, Result, Ok, Err}
+use Rattle.std.specs.Prelude.{◌≡◌, ℕ, ◌<◌, ◌≤◌, List, length, None, Some, Result, Ok, Err}
 use Rattle.amqp_terms.specs.declared.unit.Unit.{Unit as AnyUnit}
-use Rattle.history_model.specs.Trace.{first_unit}
+use Rattle.broker_engine.specs.Trace.{first_unit}
 use Rattle.broker_engine.specs.declared.conn.Fed.{Fed}
 use Rattle.broker_engine.specs.declared.conn.FeedFault.{FeedFault}
 use Rattle.broker_engine.specs.declared.conn.FeedFault.TheVariants.{Unbuilt, NoMemory}

@@ -1,6 +1,6 @@
 //! Units to octets.
 ghost use Rattle.std.specs.Prelude.{◌≡◌, ◌++◌, Some, None, IfOk, OnOk, flat_map};
-ghost use Rattle.history_model.specs.Units.{attached_octets, point_octets, completed_octets, control_octets, unit_octets, out_octets, range_octets};
+ghost use Rattle.broker_engine.specs.Units.{attached_octets, point_octets, completed_octets, control_octets, unit_octets, out_octets, range_octets};
 ghost use Rattle.std.specs.Option.{option_map};
 
 use amqp_frames::push_frame;
@@ -12,7 +12,7 @@ use std::alloc::Global;
 const TOO_MANY: usize = 65_524;
 
 /// session.attached; none where its name is too long for a vbin16.
-#[tactic(auto, unfolding(history_model::specs::Units::attached_octets))]
+#[tactic(auto, unfolding(crate::specs::Units::attached_octets))]
 fn attached_of(alloc: Global, name: &[u8]) -> Result<Option<Vec<u8>>, NoMemory>
     ensures { IfOk result (λ octets. option_map (λ v. v.items) octets ≡ attached_octets name.now) }
 {
@@ -26,7 +26,7 @@ fn attached_of(alloc: Global, name: &[u8]) -> Result<Option<Vec<u8>>, NoMemory>
 }
 
 /// session.command-point.
-#[tactic(auto, unfolding(history_model::specs::Units::point_octets))]
+#[tactic(auto, unfolding(crate::specs::Units::point_octets))]
 fn point_of(alloc: Global, id: u32, offset: u64) -> Result<Option<Vec<u8>>, NoMemory>
     ensures { IfOk result (λ octets. option_map (λ v. v.items) octets ≡ point_octets id offset) }
 {
@@ -48,7 +48,7 @@ fn push_ranges(octets: &mut Vec<u8>, ranges: &[Range]) -> Result<(), NoMemory>
 }
 
 /// session.completed; none where it has too many ranges.
-#[tactic(auto, unfolding(history_model::specs::Units::completed_octets))]
+#[tactic(auto, unfolding(crate::specs::Units::completed_octets))]
 fn completed_of(alloc: Global, ranges: &[Range]) -> Result<Option<Vec<u8>>, NoMemory>
     ensures { IfOk result (λ octets. option_map (λ v. v.items) octets ≡ completed_octets ranges.now) }
 {

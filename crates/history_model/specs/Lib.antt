@@ -5,5 +5,3 @@ pub mod State
 pub mod Answers
 pub mod Pairs
 pub mod Report
-pub mod Units
-pub mod Trace

@@ -2,7 +2,7 @@
 use Rattle.std.proofs.Common.{◌≡◌, ℕ, ◌==◌, List, [], ◌++◌, length, is_some, if◌then◌else◌, Some, Ok, Err, ◌∙◌, ap, sym, subst}
 use Rattle.std.specs.Map.{lookup}
 use Rattle.history_model.specs.declared.trace.TraceEvent.TheVariants as trace
-use Rattle.history_model.specs.Trace.{Past, past_event, hear_bytes, hear_piece, heard_by, to_line}
+use Rattle.broker_engine.specs.Trace.{Past, past_event, hear_bytes, hear_piece, heard_by, to_line}
 use Rattle.hub_core.specs.declared.hub.Hub.{Hub}
 use Rattle.hub_core.specs.Hub.{Serves}
 use Rattle.line_runs.specs.Lines.{Goes, Breaks}

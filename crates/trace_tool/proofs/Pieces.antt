@@ -3,7 +3,7 @@ use Rattle.std.proofs.Common.{◌≡◌, ℕ, zero, suc, ◌+◌, ◌-◌, ◌<�
 use Rattle.std.proofs.lemmas.List.{append-nil, append_assoc, take_rest, length-drop}
 use Rattle.amqp_terms.specs.declared.event.HubEvent.TheVariants as event
 use Rattle.history_model.specs.Arrivals.{Arrival, Hears}
-use Rattle.history_model.specs.Trace.{Went, first_unit, hear_came, hear_piece, sent_before}
+use Rattle.broker_engine.specs.Trace.{Went, first_unit, hear_came, hear_piece, sent_before}
 use Rattle.hub_core.specs.declared.hub.Hub.{Hub}
 use Rattle.hub_core.specs.Hub.{Serves}
 use Rattle.trace_tool.specs.Hearing.{HeardFrame, HeardPiece}

@@ -2,7 +2,7 @@
 use Rattle.std.specs.Prelude.{◌≡◌, ℕ, ◌<◌, ◌≤◌, List, ◌∷◌, ◌++◌, length, Option, None, Some, Result, Ok, Err}
 use Rattle.amqp_terms.specs.declared.event.HubEvent.{HubEvent}
 use Rattle.history_model.specs.Arrivals.{Arrival, Hears}
-use Rattle.history_model.specs.Trace.{Went, first_unit, hear_unit, hear_came, hear_piece, sent_before}
+use Rattle.broker_engine.specs.Trace.{Went, first_unit, hear_unit, hear_came, hear_piece, sent_before}
 use Rattle.hub_core.specs.declared.hub.Hub.{Hub}
 use Rattle.hub_core.specs.Hub.{Serves}
 use Rattle.line_runs.specs.declared.tool.Stop.{Stop}

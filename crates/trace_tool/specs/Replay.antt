@@ -6,7 +6,7 @@ use Rattle.history_model.specs.declared.trace.TraceEvent.{TraceEvent}
 use Rattle.history_model.specs.declared.trace.TraceEvent.TheVariants as trace
 use Rattle.history_model.specs.Standing.{world}
 use Rattle.history_model.specs.State.{state}
-use Rattle.history_model.specs.Trace.{Past, Went, past_event, hear_bytes, to_line}
+use Rattle.broker_engine.specs.Trace.{Past, Went, past_event, hear_bytes, to_line}
 use Rattle.history_model.specs.Report.{closing_lines}
 use Rattle.hub_core.specs.Hub.{Serves, keeper_of as hub_keeper}
 use Rattle.keeper_core.specs.declared.keeper.OpenFault.{OpenFault}

@@ -4,7 +4,7 @@ ghost use Rattle.std.specs.Io.KnownBytes.{IsAtEnd};
 ghost use Rattle.std.specs.Fmt.{decimal};
 ghost use Rattle.std.specs.Map.{lookup};
 ghost use Rattle.history_model.specs.declared.trace.TraceEvent.TheVariants as trace;
-ghost use Rattle.history_model.specs.Trace.{Past, to_line};
+ghost use Rattle.broker_engine.specs.Trace.{Past, to_line};
 ghost use Rattle.line_runs.specs.Run.{Reports, ReadHasCause, WriteHasCause};
 ghost use Rattle.trace_tool.specs.Replay.{StandsFor, Happens, conn_name, line_step, past_lines, closing_of, known, keeper_of};
 
@@ -59,7 +59,7 @@ fn line_of_hex(alloc: Global, connection: u32, sent: &str) -> Result<Octets, NoM
 }
 
 /// The line of what was sent, if anything was.
-#[tactic(auto, unfolding(history_model::specs::Trace::to_line))]
+#[tactic(auto, unfolding(broker_engine::specs::Trace::to_line))]
 fn line_of(alloc: Global, connection: u32, sent: &[u8]) -> Result<Octets, NoMemory>
     ensures { IfOk result (λ line. line ≡ to_line connection sent.now) }
 {

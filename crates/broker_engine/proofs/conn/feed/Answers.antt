@@ -1,6 +1,6 @@
 -- The frame's header lies within the piece, and its payload holds the unit.
 use Rattle.std.proofs.Common.{ap, refl, ◌∙◌, arith}
-use Rattle.history_model.specs.Trace.{came_in}
+use Rattle.broker_engine.specs.Trace.{came_in}
 use Rattle.broker_engine.proofs.Heads.{head_within, first_is}
 use Rattle.broker_engine.proofs.conn.feed.Goals as goal
 
@@ -29,3 +29,6 @@ pub returns-in-Ok-None : goal.returns-in-Ok-None
 returns-in-Ok-None c =
     let w = head_within c.args.piece.now c.in-Some.head c.in-Some.ensures in
     first_is c.args.piece.now c.in-Some.head c.in-Ok-None.field-0 c.in-Some.ensures w c.in-Ok-None.ensures ∙ ap (came_in c.in-Some.head) c.in-Ok-None.field-0-is
+
+pub unit_of-requires : goal.unit_of-requires
+unit_of-requires c = (head_within c.args.piece.now c.in-Some.head c.in-Some.ensures).kind

@@ -1,6 +1,6 @@
 -- The units so far.
 use Rattle.std.proofs.Common.{◌≡◌, ◌++◌, flat_map, take}
-use Rattle.history_model.specs.Units.{out_octets}
+use Rattle.broker_engine.specs.Units.{out_octets}
 use Rattle.broker_engine.proofs.write.push_outs.Given as goal
 
 abbrev pub invariant-loop-out : goal.invariant-loop-out

@@ -1,6 +1,6 @@
 -- The pairs so far.
 use Rattle.std.proofs.Common.{◌≡◌, ◌++◌, flat_map, take}
-use Rattle.history_model.specs.Units.{range_octets}
+use Rattle.broker_engine.specs.Units.{range_octets}
 use Rattle.broker_engine.proofs.write.push_ranges.Given as goal
 
 abbrev pub invariant-loop-range : goal.invariant-loop-range

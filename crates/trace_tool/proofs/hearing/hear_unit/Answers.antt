@@ -5,8 +5,8 @@ use Rattle.history_model.specs.Answers.{answers}
 use Rattle.history_model.specs.Arrivals.{Hears}
 use Rattle.history_model.specs.Standing.{world}
 use Rattle.history_model.specs.State.{state, covered}
-use Rattle.history_model.specs.Trace.{sent_before}
-use Rattle.history_model.specs.Units.{out_octets}
+use Rattle.broker_engine.specs.Trace.{sent_before}
+use Rattle.broker_engine.specs.Units.{out_octets}
 use Rattle.trace_tool.proofs.hearing.hear_unit.Goals as goal
 
 pub returns-in-Ok-written-clause-heard : goal.returns-in-Ok-written-clause-heard

@@ -1,7 +1,7 @@
 -- The piece is heard, and its line is written.
 use Rattle.std.proofs.Common.{◌==◌, Err, ◌∙◌, ap, subst}
 use Rattle.std.specs.Map.{lookup}
-use Rattle.history_model.specs.Trace.{to_line}
+use Rattle.broker_engine.specs.Trace.{to_line}
 use Rattle.trace_tool.specs.Hearing.{HeardPiece, PieceDone}
 use Rattle.trace_tool.proofs.Pieced.{bytes_stop, bytes_done}
 use Rattle.trace_tool.proofs.replay.Replay.bytes.Goals as goal

@@ -1,5 +1,5 @@
 -- What the events of a trace are to the hub, and what they send.
-use Rattle.std.specs.Prelude.{ℕ, zero, suc, ◌+◌, ◌==◌, Bool, true, false, is_some, if◌then◌else◌, List, [], ◌∷◌, ◌++◌, length, take, drop, codes, flat_map, Option, None, Some}
+use Rattle.std.specs.Prelude.{ℕ, zero, suc, ◌==◌, if◌then◌else◌, List, [], ◌∷◌, ◌++◌, length, take, drop, codes, flat_map, Option, None, Some}
 use Rattle.std.specs.Fmt.{decimal}
 use Rattle.std.specs.Map.{lookup}
 use Rattle.std.specs.BTreeMap.{insert_entry}
@@ -13,10 +13,10 @@ use Rattle.amqp_frames.specs.Head.{head_of}
 use Rattle.history_model.specs.declared.trace.TraceEvent.{TraceEvent}
 use Rattle.history_model.specs.declared.trace.TraceEvent.TheVariants as trace
 use Rattle.history_model.specs.Arrivals.{Arrival, Hears}
-use Rattle.history_model.specs.Standing.{World, world}
+use Rattle.history_model.specs.Standing.{world}
 use Rattle.history_model.specs.State.{state, covered}
 use Rattle.history_model.specs.Answers.{answers, joined_as}
-use Rattle.history_model.specs.Units.{unit_in, out_octets}
+use Rattle.broker_engine.specs.Units.{unit_in, out_octets}
 
 -- a unit that came, and the octets of its frame
 pub record Came : Type 0 where
