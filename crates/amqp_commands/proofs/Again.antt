@@ -26,7 +26,8 @@ use Rattle.amqp_commands.specs.declared.kind.ControlKind.{ControlKind}
 use Rattle.amqp_commands.specs.declared.kind.CommandKind.{CommandKind}
 use Rattle.amqp_commands.specs.Kinds.{is_control_class, control_class, control_code, control_kind, control_table, is_command_class, command_class, command_code, command_kind, command_table}
 use Rattle.amqp_commands.specs.Terms.{control_kind_of, control_fields, control_by, command_kind_of, command_fields, command_by}
-use Rattle.amqp_commands.specs.Units.{known, control_in, session_header_at, command_of, command_in, in_segment, takes_content, body_of, with_header, content_in, with_content, after_command, command_unit, control_unit, unit_in, control_head, control_octets, command_head, kind_octets, command_octets, header_segments, body_segments, content_segments, unit_segments, command_fine, header_fine, content_sound, content_fine, unit_fine}
+use Rattle.amqp_structs.specs.Results.{known}
+use Rattle.amqp_commands.specs.Units.{control_in, session_header_at, command_of, command_in, in_segment, takes_content, body_of, with_header, content_in, with_content, after_command, command_unit, control_unit, unit_in, control_head, control_octets, command_head, kind_octets, command_octets, header_segments, body_segments, content_segments, unit_segments, command_fine, header_fine, content_sound, content_fine, unit_fine}
 use Rattle.amqp_commands.proofs.Known.{control_back, control_stands, control_known, control_listed, OfKind, by_cases, command_known, command_listed}
 
 -- ---- a control's segment

@@ -20,6 +20,7 @@ use Rattle.amqp_packed.proofs.Structs.{AllIs, all_fields_found}
 use Rattle.amqp_packed.proofs.Rounds.{rounds_stay}
 use Rattle.amqp_structs.specs.Header.{header_in}
 use Rattle.amqp_structs.proofs.Found.{HeaderIs, header_found}
+use Rattle.amqp_structs.proofs.Results.{two_parts}
 use Rattle.amqp_frames.specs.declared.assembly.Segment.{Segment}
 use Rattle.amqp_frames.specs.Assembly.{is_alone, follow, IsPlaced}
 use Rattle.amqp_commands.specs.declared.kind.ControlKind.{ControlKind}
@@ -28,15 +29,10 @@ use Rattle.amqp_commands.specs.declared.error.UnitFault.{UnitFault}
 use Rattle.amqp_commands.specs.declared.error.UnitError.{UnitError}
 use Rattle.amqp_commands.specs.Kinds.{is_control_class, control_class, control_kind, control_table, is_command_class, command_kind, command_table}
 use Rattle.amqp_commands.specs.Terms.{control_fields, control_by, command_kind_of, command_fields, command_by}
-use Rattle.amqp_commands.specs.Units.{known, control_in, control_head, session_header_at, command_of, command_in, command_fine, in_segment, takes_content, body_of, with_header, content_in, with_content, after_command, command_unit, control_unit, unit_in, body_segments, Answers}
+use Rattle.amqp_structs.specs.Results.{known}
+use Rattle.amqp_commands.specs.Units.{control_in, control_head, session_header_at, command_of, command_in, command_fine, in_segment, takes_content, body_of, with_header, content_in, with_content, after_command, command_unit, control_unit, unit_in, body_segments, Answers}
 use Rattle.amqp_commands.specs.Spelled.{AllBytes, ControlSpelled, FieldsSpelled, ArgsSpelled, CommandSpelled, ContentSpelled, UnitSpelled}
 use Rattle.amqp_commands.proofs.Known.{control_rounds, control_made, control_codes, command_rounds, command_made, command_codes}
-
-two_first : (octets front rest : List ℕ) → octets ≡ front ++ rest → length front ≡ 2 → octets ≡ slice_index octets 0 ∷ slice_index octets 1 ∷ rest
-two_first octets [] rest e len = absurd (omega (arith, len))
-two_first octets (x ∷ []) rest e len = absurd (omega (arith, len))
-two_first octets (x ∷ y ∷ []) rest e len = e ∙ sym (ap (λ os. slice_index os 0 ∷ slice_index os 1 ∷ rest) e)
-two_first octets (x ∷ y ∷ z ∷ front) rest e len = absurd (omega (arith, len))
 
 -- ---- a control's segment
 
@@ -64,7 +60,7 @@ control_found octets bytes =
     let listed : List ℕ → Option ControlKind → Result Control Flaw = λ args o. known (flaw_at UnknownControl (drop 1 octets)) o >>= last args in
     holds_bind (PartIs octets 2) Q (part_at octets octets 2) (λ head. check (is_control_class class) (flaw_at UnknownClass octets) >>= λ _. listed head.1 (control_kind class code)) (part_found octets octets 2 bytes)
     (λ head p. holds_check Q (is_control_class class) (flaw_at UnknownClass octets) (listed head.1 (control_kind class code))
-    (λ _. by head.1 (two_first octets head.0 head.1 p.parts p.long) p.rest (control_kind class code) refl))
+    (λ _. by head.1 (two_parts octets head.0 head.1 p.parts p.long) p.rest (control_kind class code) refl))
   where
     by : (args : List ℕ) → octets ≡ slice_index octets 0 ∷ slice_index octets 1 ∷ args → IsBytes args → (o : Option ControlKind) → control_kind (slice_index octets 0) (slice_index octets 1) ≡ o
         → Holds (λ control. ControlSpelled control octets) (known (flaw_at UnknownControl (drop 1 octets)) o >>= λ kind. all_fields_at TrailingOctets (control_table kind) args >>= λ fields. Ok (control_by kind fields))
@@ -89,7 +85,7 @@ session_found octets bytes =
     let first : one ≡ 1 = eqb-true one 1 q.0 in
     let second : flag ≡ (if eqb flag 1 then 1 else 0) = bit flag (ltb-true flag 2 q.1) in
     record {
-      is = two_first octets part.0 part.1 p.parts p.long ∙ ap (λ n. n ∷ flag ∷ part.1) first ∙ ap (λ n. 1 ∷ n ∷ part.1) second;
+      is = two_parts octets part.0 part.1 p.parts p.long ∙ ap (λ n. n ∷ flag ∷ part.1) first ∙ ap (λ n. 1 ∷ n ∷ part.1) second;
       rest = p.rest;
     }))
   where
@@ -173,7 +169,7 @@ command_found octets bytes =
       class = class;
       code = code;
       text = s.1;
-      is = two_first octets head.0 head.1 p.parts p.long ∙ ap (λ zs. class ∷ code ∷ zs) h.is;
+      is = two_parts octets head.0 head.1 p.parts p.long ∙ ap (λ zs. class ∷ code ∷ zs) h.is;
       args = a.args;
       fine = a.fine;
     }))))

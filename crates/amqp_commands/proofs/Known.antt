@@ -6,6 +6,7 @@ use Rattle.std.proofs.lemmas.Bool.{and_parts, eqb-true, false≢true}
 use Rattle.amqp_packed.specs.Spelling.{Alike}
 use Rattle.amqp_packed.proofs.Typed.{back_array, stands_array, back_bit, stands_bit, back_map, stands_map, back_ranges, stands_ranges, back_str16, stands_str16, back_str8, stands_str8, back_struct32, stands_struct32, back_u16, stands_u16, back_u32, stands_u32, back_u64, stands_u64, back_u8, stands_u8, back_vbin16, stands_vbin16, back_vbin32, stands_vbin32, back_xid, stands_xid}
 use Rattle.amqp_packed.proofs.Rounds.{rounds}
+use Rattle.amqp_structs.proofs.Results.{found_passes, HasCode}
 use Rattle.amqp_terms.specs.declared.control.Control.{Control}
 use Rattle.amqp_terms.specs.declared.control.Control.TheVariants as c
 use Rattle.amqp_terms.specs.declared.command.Command.{Command}
@@ -389,26 +390,7 @@ command_listed mk.QueueDelete = refl
 command_listed mk.QueuePurge = refl
 command_listed mk.QueueQuery = refl
 
--- ---- what is found passes the test
-
-some_same : {X : Type 0} (d x y : X) → Some x ≡ Some y → x ≡ y
-some_same d x y e = ap (λ o. get_some d o) e
-  where
-    get_some : {X : Type 0} → X → Option X → X
-    get_some d None = d
-    get_some d (Some z) = z
-
-found_passes : {X : Type 0} (test : X → Bool) (xs : List X) (y : X) → find test xs ≡ Some y → test y ≡ true
-found_passes test [] y e = absurd (false≢true (ap is_some e))
-found_passes test (x ∷ xs) y e = by (test x) refl e (found_passes test xs y)
-  where
-    by : (b : Bool) → test x ≡ b → (if b then Some x else find test xs) ≡ Some y → (find test xs ≡ Some y → test y ≡ true) → test y ≡ true
-    by true h e' more = ap test (sym (some_same x x y e')) ∙ h
-    by false h e' more = more e'
-
-pub record HasCode (class code class' code' : ℕ) : Type 0 where
-  pub class_is : class' ≡ class
-  pub code_is : code' ≡ code
+-- ---- codes of what is found
 
 pub control_codes : (class code : ℕ) (kind : ControlKind) → control_kind class code ≡ Some kind → HasCode class code (control_class kind) (control_code kind)
 unfolding control_kind

@@ -14,6 +14,7 @@ use Rattle.amqp_terms.specs.declared.unit.Unit.TheVariants as unit
 use Rattle.amqp_packed.specs.Reading.{all_fields_at}
 use Rattle.amqp_packed.specs.Spelling.{packed, is_fine}
 use Rattle.amqp_structs.specs.Header.{header_in, header_octets, has_spelling}
+use Rattle.amqp_structs.specs.Results.{known}
 use Rattle.amqp_frames.specs.declared.assembly.Segment.{Segment}
 use Rattle.amqp_frames.specs.Assembly.{is_alone}
 use Rattle.octet_reading.specs.declared.flaw.ReadError.{ReadError}
@@ -27,11 +28,6 @@ use Rattle.amqp_commands.specs.Kinds.{is_control_class, control_class, control_c
 use Rattle.amqp_commands.specs.Terms.{control_kind_of, control_fields, control_by, command_kind_of, command_fields, command_by}
 
 -- ---- reading
-
--- what must be there
-abbrev pub known : {A : Type 0} → Flaw → Option A → Result A Flaw
-known flaw None = Err flaw
-known flaw (Some x) = Ok x
 
 -- the segment of a control: class, code, fields
 unfoldable pub control_in : List ℕ → Result Control Flaw

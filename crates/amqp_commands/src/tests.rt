@@ -268,7 +268,7 @@ fn a_reserved_flag(rt: HostRuntime) -> Result<(), Fail> {
 
 // The units that a session's first commands are: attach `s`, command-point 0, queue.declare `q`.
 #[test]
-fn attach_point_and_declare(rt: HostRuntime) -> Result<(), Fail> {
+fn the_units_of_show(rt: HostRuntime) -> Result<(), Fail> {
     let alloc = rt.alloc();
     assert!(rt; is_control(alloc, octets_of(alloc, "02010100000173")?)?);
     assert!(rt; is_control(alloc, octets_of(alloc, "02070300000000000000000000000000")?)?);

@@ -2,3 +2,4 @@ pub mod Again
 pub mod Found
 pub mod Loops
 pub mod Public
+pub mod Results
