@@ -22,8 +22,8 @@ use Rattle.amqp_packed.specs.Spelling.{packed, is_fine}
 use Rattle.amqp_packed.proofs.Again.{all_fields_again}
 use Rattle.amqp_structs.specs.Header.{header_octets}
 use Rattle.amqp_structs.proofs.Again.{header_again}
-use Rattle.amqp_commands.specs.declared.kind.ControlKind.{ControlKind}
-use Rattle.amqp_commands.specs.declared.kind.CommandKind.{CommandKind}
+use Rattle.amqp_commands.specs.declared.controls.ControlKind.{ControlKind}
+use Rattle.amqp_commands.specs.declared.commands.CommandKind.{CommandKind}
 use Rattle.amqp_commands.specs.Kinds.{is_control_class, control_class, control_code, control_kind, control_table, is_command_class, command_class, command_code, command_kind, command_table}
 use Rattle.amqp_commands.specs.Terms.{control_kind_of, control_fields, control_by, command_kind_of, command_fields, command_by}
 use Rattle.amqp_structs.specs.Results.{known}

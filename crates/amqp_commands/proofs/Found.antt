@@ -1,5 +1,5 @@
 -- What is read is spelled so.
-use Rattle.std.proofs.Common.{◌≡◌, if◌then◌else◌, ℕ, zero, suc, ◌<◌, ◌≤◌, ◌&&◌, ◌||◌, not, Bool, true, false, eqb, ltb, leb, List, [], ◌∷◌, ◌++◌, length, drop, Option, None, Some, Result, Ok, Err, IfOk, refl, sym, ap, subst, ◌∙◌, arith}
+use Rattle.std.proofs.Common.{◌≡◌, if◌then◌else◌, ℕ, zero, suc, ◌<◌, ◌≤◌, ◌&&◌, ◌||◌, not, Bool, true, false, eqb, ltb, leb, List, [], ◌∷◌, ◌++◌, drop, Option, None, Some, Result, Ok, Err, IfOk, refl, sym, ap, subst, ◌∙◌, arith}
 use Rattle.std.specs.Prelude.{slice_index, is_some, nat_lt}
 use Rattle.std.specs.List.{list_all}
 use Rattle.std.proofs.lemmas.Bool.{and_parts, and_from, eqb-true, ltb-true, leb-true, lt-ltb, false≢true}
@@ -23,8 +23,8 @@ use Rattle.amqp_structs.proofs.Found.{HeaderIs, header_found}
 use Rattle.amqp_structs.proofs.Results.{two_parts}
 use Rattle.amqp_frames.specs.declared.assembly.Segment.{Segment}
 use Rattle.amqp_frames.specs.Assembly.{is_alone, follow, IsPlaced}
-use Rattle.amqp_commands.specs.declared.kind.ControlKind.{ControlKind}
-use Rattle.amqp_commands.specs.declared.kind.CommandKind.{CommandKind}
+use Rattle.amqp_commands.specs.declared.controls.ControlKind.{ControlKind}
+use Rattle.amqp_commands.specs.declared.commands.CommandKind.{CommandKind}
 use Rattle.amqp_commands.specs.declared.error.UnitFault.{UnitFault}
 use Rattle.amqp_commands.specs.declared.error.UnitError.{UnitError}
 use Rattle.amqp_commands.specs.Kinds.{is_control_class, control_class, control_kind, control_table, is_command_class, command_kind, command_table}

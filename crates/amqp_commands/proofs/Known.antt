@@ -1,8 +1,6 @@
 -- Kinds with fields and what they make tell of each other; classes and codes tell of kinds.
-use Rattle.std.proofs.Common.{◌≡◌, ℕ, ◌&&◌, Bool, true, false, eqb, List, [], ◌∷◌, Option, None, Some, refl, sym, ap, ◌∙◌}
-use Rattle.std.specs.List.{find}
-use Rattle.std.specs.Prelude.{is_some, if◌then◌else◌}
-use Rattle.std.proofs.lemmas.Bool.{and_parts, eqb-true, false≢true}
+use Rattle.std.proofs.Common.{◌≡◌, ℕ, ◌&&◌, true, eqb, List, Some, refl}
+use Rattle.std.proofs.lemmas.Bool.{and_parts, eqb-true}
 use Rattle.amqp_packed.specs.Spelling.{Alike}
 use Rattle.amqp_packed.proofs.Typed.{back_array, stands_array, back_bit, stands_bit, back_map, stands_map, back_ranges, stands_ranges, back_str16, stands_str16, back_str8, stands_str8, back_struct32, stands_struct32, back_u16, stands_u16, back_u32, stands_u32, back_u64, stands_u64, back_u8, stands_u8, back_vbin16, stands_vbin16, back_vbin32, stands_vbin32, back_xid, stands_xid}
 use Rattle.amqp_packed.proofs.Rounds.{rounds}
@@ -12,10 +10,10 @@ use Rattle.amqp_terms.specs.declared.control.Control.TheVariants as c
 use Rattle.amqp_terms.specs.declared.command.Command.{Command}
 use Rattle.amqp_terms.specs.declared.command.Command.TheVariants as m
 use Rattle.amqp_packed.specs.declared.field.Field.{Field}
-use Rattle.amqp_commands.specs.declared.kind.ControlKind.{ControlKind}
-use Rattle.amqp_commands.specs.declared.kind.ControlKind.TheVariants as ck
-use Rattle.amqp_commands.specs.declared.kind.CommandKind.{CommandKind}
-use Rattle.amqp_commands.specs.declared.kind.CommandKind.TheVariants as mk
+use Rattle.amqp_commands.specs.declared.controls.ControlKind.{ControlKind}
+use Rattle.amqp_commands.specs.declared.controls.ControlKind.TheVariants as ck
+use Rattle.amqp_commands.specs.declared.commands.CommandKind.{CommandKind}
+use Rattle.amqp_commands.specs.declared.commands.CommandKind.TheVariants as mk
 use Rattle.amqp_commands.specs.Kinds.{is_control_class, control_class, control_code, all_controls, control_kind, control_table, is_command_class, command_class, command_code, all_commands, command_kind, command_table}
 use Rattle.amqp_commands.specs.Terms.{control_kind_of, control_fields, control_by, command_kind_of, command_fields, command_by}
 

@@ -2,3 +2,4 @@ pub mod Sound
 pub mod Known
 pub mod Again
 pub mod Found
+pub mod Fine

@@ -3,10 +3,10 @@ use Rattle.std.specs.Prelude.{ℕ, ◌==◌, ◌&&◌, ◌||◌, nat_le, Bool, L
 use Rattle.std.specs.List.{find}
 use Rattle.amqp_packed.specs.declared.field.FieldKind.{FieldKind}
 use Rattle.amqp_packed.specs.declared.field.FieldKind.TheVariants as k
-use Rattle.amqp_commands.specs.declared.kind.ControlKind.{ControlKind}
-use Rattle.amqp_commands.specs.declared.kind.ControlKind.TheVariants as ck
-use Rattle.amqp_commands.specs.declared.kind.CommandKind.{CommandKind}
-use Rattle.amqp_commands.specs.declared.kind.CommandKind.TheVariants as mk
+use Rattle.amqp_commands.specs.declared.controls.ControlKind.{ControlKind}
+use Rattle.amqp_commands.specs.declared.controls.ControlKind.TheVariants as ck
+use Rattle.amqp_commands.specs.declared.commands.CommandKind.{CommandKind}
+use Rattle.amqp_commands.specs.declared.commands.CommandKind.TheVariants as mk
 
 -- the classes connection and session have controls, those from execution to queue commands
 abbrev pub is_control_class : ℕ → Bool

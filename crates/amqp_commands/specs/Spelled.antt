@@ -1,5 +1,5 @@
 -- The segments that may spell a unit: those that are written, and others where an xid or a reply-to leaves fields out.
-use Rattle.std.specs.Prelude.{◌≡◌, ℕ, Bool, true, List, [], ◌∷◌, ◌++◌, Option, None, Some}
+use Rattle.std.specs.Prelude.{◌≡◌, ◌<◌, length, ℕ, Bool, true, List, [], ◌∷◌, ◌++◌, Option, None, Some}
 use Rattle.std.specs.List.{list_all}
 use Rattle.octet_reading.specs.Reading.{IsBytes}
 use Rattle.amqp_terms.specs.declared.control.Control.{Control}
@@ -14,7 +14,7 @@ use Rattle.amqp_packed.specs.Spelled.{Packs}
 use Rattle.amqp_structs.specs.Header.{is_sound}
 use Rattle.amqp_structs.specs.Spelled.{HeaderSpelled}
 use Rattle.amqp_frames.specs.declared.assembly.Segment.{Segment}
-use Rattle.amqp_commands.specs.declared.kind.CommandKind.{CommandKind}
+use Rattle.amqp_commands.specs.declared.commands.CommandKind.{CommandKind}
 use Rattle.amqp_commands.specs.Kinds.{command_class, command_code}
 use Rattle.amqp_commands.specs.Terms.{control_kind_of, control_fields, command_kind_of, command_fields}
 use Rattle.amqp_commands.specs.Units.{control_head, command_head, takes_content, body_segments, command_fine}
@@ -23,6 +23,11 @@ use Rattle.amqp_commands.specs.Units.{control_head, command_head, takes_content,
 abbrev pub AllBytes : List Segment → Type 0
 AllBytes [] = Unit {0}
 AllBytes (segment ∷ segments) = IsBytes segment.octets × AllBytes segments
+
+-- each segment has fewer than 2^31 octets
+abbrev pub AllShort : List Segment → Type 0
+AllShort [] = Unit {0}
+AllShort (segment ∷ segments) = (length segment.octets < 2147483648) × AllShort segments
 
 -- the segment of a control: class, code and octets that spell its fields, which have spellings
 pub record ControlSpelled (control : Control) (octets : List ℕ) : Type 0 where

@@ -6,10 +6,10 @@ use Rattle.amqp_terms.specs.declared.command.Command.{Command}
 use Rattle.amqp_terms.specs.declared.command.Command.TheVariants as m
 use Rattle.amqp_packed.specs.declared.field.Field.{Field}
 use Rattle.amqp_packed.specs.Typed.{first, others, as_array, of_array, as_bit, of_bit, as_map, of_map, as_ranges, of_ranges, as_str16, of_str16, as_str8, of_str8, as_struct32, of_struct32, as_u16, of_u16, as_u32, of_u32, as_u64, of_u64, as_u8, of_u8, as_vbin16, of_vbin16, as_vbin32, of_vbin32, as_xid, of_xid}
-use Rattle.amqp_commands.specs.declared.kind.ControlKind.{ControlKind}
-use Rattle.amqp_commands.specs.declared.kind.ControlKind.TheVariants as ck
-use Rattle.amqp_commands.specs.declared.kind.CommandKind.{CommandKind}
-use Rattle.amqp_commands.specs.declared.kind.CommandKind.TheVariants as mk
+use Rattle.amqp_commands.specs.declared.controls.ControlKind.{ControlKind}
+use Rattle.amqp_commands.specs.declared.controls.ControlKind.TheVariants as ck
+use Rattle.amqp_commands.specs.declared.commands.CommandKind.{CommandKind}
+use Rattle.amqp_commands.specs.declared.commands.CommandKind.TheVariants as mk
 
 -- what kind a control is, its fields in order, and the control that fields make
 abbrev pub control_kind_of : Control → ControlKind

@@ -19,8 +19,8 @@ use Rattle.amqp_frames.specs.declared.assembly.Segment.{Segment}
 use Rattle.amqp_frames.specs.Assembly.{is_alone}
 use Rattle.octet_reading.specs.declared.flaw.ReadError.{ReadError}
 use Rattle.octet_reading.specs.declared.flaw.ReadError.TheVariants as error
-use Rattle.amqp_commands.specs.declared.kind.ControlKind.{ControlKind}
-use Rattle.amqp_commands.specs.declared.kind.CommandKind.{CommandKind}
+use Rattle.amqp_commands.specs.declared.controls.ControlKind.{ControlKind}
+use Rattle.amqp_commands.specs.declared.commands.CommandKind.{CommandKind}
 use Rattle.amqp_commands.specs.declared.error.UnitFault.{UnitFault}
 use Rattle.amqp_commands.specs.declared.error.UnitError.{UnitError}
 use Rattle.amqp_commands.specs.declared.error.UnitError.TheVariants as refused

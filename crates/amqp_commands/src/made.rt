@@ -2,7 +2,8 @@
 ghost use Rattle.std.specs.Prelude.{◌≡◌};
 ghost use Rattle.amqp_commands.specs.Terms.{control_by, command_by};
 
-use crate::kind::{CommandKind, ControlKind};
+use crate::commands::CommandKind;
+use crate::controls::ControlKind;
 use amqp_packed::{
     Fields, take_array, take_bit, take_map, take_ranges, take_str8, take_str16, take_struct32,
     take_u8, take_u16, take_u32, take_u64, take_vbin16, take_vbin32, take_xid,

@@ -5,10 +5,11 @@ ghost use Rattle.amqp_frames.specs.Assembly.{IsPlaced};
 ghost use Rattle.amqp_structs.specs.Header.{header_in};
 ghost use Rattle.amqp_terms.specs.declared.unit.Unit.{Unit as AnyUnit};
 ghost use Rattle.amqp_commands.specs.Units.{control_in, session_header_at, command_of, command_in, takes_content, body_of, content_in, in_segment, control_unit, after_command, command_unit, unit_in, unit_segments, unit_fine, FaultIs, Answers};
-ghost use Rattle.amqp_commands.specs.Spelled.{AllBytes, UnitSpelled};
+ghost use Rattle.amqp_commands.specs.Spelled.{AllBytes, AllShort, UnitSpelled};
 
+use crate::commands::{CommandKind, command_kind, is_command_class};
+use crate::controls::{control_kind, is_control_class};
 use crate::error::{UnitError, UnitFault};
-use crate::kind::{CommandKind, command_kind, control_kind, is_command_class, is_control_class};
 use crate::made::{command_by, control_by};
 use amqp_frames::{Assembly, Segment};
 use amqp_packed::{all_fields_of, discard_fields};
@@ -24,6 +25,8 @@ pub fn read_unit(alloc: Global, assembly: &Assembly) -> Result<Unit, UnitError>
     ensures exact { Answers result (unit_in assembly.now) }
     // What was read has spellings in its fields, and the segments spell it.
     ensures found { IfOk result (λ unit. UnitSpelled unit assembly.now) }
+    // What was read of segments with fewer than 2^31 octets each can be written.
+    ensures fine { AllShort assembly.now → IfOk result (λ unit. unit_fine unit ≡ true) }
     // What is written is read.
     ensures only { (unit : AnyUnit) → unit_fine unit ≡ true → assembly.now ≡ unit_segments unit → Answers result (Ok unit) }
 {

@@ -6,7 +6,8 @@ ghost use Rattle.amqp_frames.specs.Assembly.{IsPlaced};
 ghost use Rattle.amqp_terms.specs.declared.unit.Unit.TheVariants as AnyUnit;
 ghost use Rattle.amqp_commands.specs.Units.{control_octets, command_octets, content_segments, content_sound, unit_segments, unit_fine, command_fine};
 
-use crate::put::{put_command, put_control};
+use crate::put_commands::put_command;
+use crate::put_controls::put_control;
 use amqp_frames::{Assembly, Segment};
 use amqp_structs::put_structs;
 use amqp_terms::{Command, Content, Control, Header, Unit};

@@ -7,3 +7,4 @@ pub mod Structs
 pub mod Typed
 pub mod Lending
 pub mod Rounds
+pub mod Near

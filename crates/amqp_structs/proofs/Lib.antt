@@ -3,3 +3,4 @@ pub mod Found
 pub mod Loops
 pub mod Public
 pub mod Results
+pub mod Fine

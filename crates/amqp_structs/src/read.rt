@@ -1,5 +1,5 @@
 //! The structs of a header segment, read.
-ghost use Rattle.std.specs.Prelude.{◌≡◌, true, Ok, List, [], length, IfOk};
+ghost use Rattle.std.specs.Prelude.{◌≡◌, true, Ok, List, [], length, IfOk, ◌<◌, ◌^◌};
 ghost use Rattle.octet_reading.specs.Reading.{Gives, Within};
 ghost use Rattle.amqp_structs.specs.Header.{delivery_table, delivery_by, message_table, message_by, delivery_in, message_in, coded_in, struct_in, struct_at, header_in, header_octets, is_sound, has_spelling, read_in, Answers};
 ghost use Rattle.amqp_structs.specs.Spelled.{HeaderSpelled};
@@ -51,6 +51,8 @@ pub fn read_header(alloc: Global, octets: &[u8]) -> Result<Header, HeaderError>
     ensures exact { Answers result (read_in octets.now) }
     // What was read has spellings in its fields, and the octets spell it.
     ensures found { IfOk result (λ items. (list_all is_sound items ≡ true) × HeaderSpelled items octets.now) }
+    // What was read of fewer than 2^31 octets can be written.
+    ensures fine { length octets.now < 2 ^ 31 → IfOk result (λ items. list_all has_spelling items ≡ true) }
     // What is written is read.
     ensures only { (items : List HeaderItem) → list_all has_spelling items ≡ true → octets.now ≡ header_octets items → Answers result (Ok items) }
 {
