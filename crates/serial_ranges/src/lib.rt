@@ -3,4 +3,4 @@
 
 mod serial;
 
-pub use serial::unwrap;
+pub use serial::{unwrap, unwrap_range};
