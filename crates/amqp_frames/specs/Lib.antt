@@ -1,3 +1,4 @@
 pub mod Assembly
 pub mod Head
 pub mod Lay
+pub mod Frames

@@ -2,9 +2,13 @@
 #![tactic(auto)]
 
 mod assembly;
+mod frames;
 mod head;
 mod lay;
+#[cfg(test)]
+mod tests;
 
 pub use assembly::{Assembly, Segment};
+pub use frames::write_frames;
 pub use head::{FrameHead, frame_head};
 pub use lay::push_frame;

@@ -1,0 +1,6 @@
+-- Down the list.
+use Rattle.std.proofs.Common.{length}
+use Rattle.amqp_frames.proofs.frames.+put_segments.Given as goal
+
+abbrev pub decreases-put_segments : goal.decreases-put_segments
+decreases-put_segments l = length l.segments.now
