@@ -1,6 +1,6 @@
 -- The least number that no command had, and that each number acts at most once.
-use Rattle.std.proofs.Common.{◌≡◌, ℕ, zero, suc, ◌+◌, ◌<◌, ◌≤◌, eqb, max, cond, Bool, true, false, List, [], ◌∷◌, ◌∙◌, ap, sym, subst, refl, arith, inl, inr}
-use Rattle.std.proofs.lemmas.Bool.{or_from, cond-true, cond-false, ne_eqb, cases_lt, true≢false, cases_order}
+use Rattle.std.proofs.Common.{◌≡◌, ℕ, zero, suc, ◌+◌, ◌<◌, ◌≤◌, eqb, Bool, true, false, List, [], ◌∷◌, ◌∙◌, ap, sym, refl, arith, inl, inr}
+use Rattle.std.proofs.lemmas.Bool.{or_from, cond-true, cond-false, ne_eqb, cases_lt, true≢false}
 use Rattle.history_model.specs.Life.{Heard, Attach, Point, Does, Gave, number, taken, past, first_free, next}
 
 -- no number from `past` on was taken

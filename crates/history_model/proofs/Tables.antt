@@ -1,5 +1,5 @@
 -- Tables of the code and of the definitions with the same keys change alike.
-use Rattle.std.proofs.Common.{◌≡◌, ℕ, suc, cond, Bool, true, false, List, [], ◌∷◌, length, Option, None, Some, ◌∙◌, ap, refl}
+use Rattle.std.proofs.Common.{◌≡◌, suc, cond, Bool, true, false, List, [], ◌∷◌, length, Some, ◌∙◌, ap, sym, subst, refl, filter}
 use Rattle.std.specs.declared.cmp.Ordering.{Ordering}
 use Rattle.std.specs.declared.cmp.Ordering.TheVariants.{Less, Equal, Greater}
 use Rattle.std.specs.Map.{lookup, set_value}
@@ -36,3 +36,12 @@ paired-insert R cmp k x y r (more {k = j} {x = a} {y = b} {es = es} {fs = fs} q 
 pub length-paired : {K X Y : Type 0} (R : X → Y → Type 0) {es : List (K × X)} {fs : List (K × Y)} → Paired R es fs → length es ≡ length fs
 length-paired R none = refl
 length-paired R (more r p) = ap suc (length-paired R p)
+
+-- rows that stay in both stay alike
+pub paired-filter : {K X Y : Type 0} (R : X → Y → Type 0) (f : (K × X) → Bool) (g : (K × Y) → Bool) → ((k : K) (x : X) (y : Y) → R x y → f (k, x) ≡ g (k, y))
+    → {es : List (K × X)} {fs : List (K × Y)} → Paired R es fs → Paired R (filter f es) (filter g fs)
+paired-filter R f g same none = none
+paired-filter R f g same (more {k = k} {x = x} {y = y} {es = es} {fs = fs} r p) =
+    subst (λ b. Paired R (cond b ((k, x) ∷ filter f es) (filter f es)) (cond (g (k, y)) ((k, y) ∷ filter g fs) (filter g fs))) (sym (same k x y r))
+    (elim (g (k, y)) as (λ b. Paired R (cond b ((k, x) ∷ filter f es) (filter f es)) (cond b ((k, y) ∷ filter g fs) (filter g fs)))
+    [ true ↦ more r (paired-filter R f g same p) | false ↦ paired-filter R f g same p ])

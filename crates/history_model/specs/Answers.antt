@@ -1,7 +1,5 @@
 -- What goes out at once for each arrival.
-use Rattle.std.specs.Prelude.{ℕ, ◌+◌, ◌^◌, nat_lt, Bool, true, false, if◌then◌else◌, List, [], ◌∷◌, Option, None, Some}
-use Rattle.amqp_values.specs.declared.value.Range.{Range}
-use Rattle.amqp_terms.specs.declared.unit.Unit.{Unit as AnyUnit}
+use Rattle.std.specs.Prelude.{ℕ, ◌+◌, ◌^◌, nat_lt, false, if◌then◌else◌, List, [], ◌∷◌, Option, None, Some}
 use Rattle.amqp_terms.specs.declared.unit.Unit.TheVariants as unit
 use Rattle.amqp_terms.specs.declared.control.Control.{Control}
 use Rattle.amqp_terms.specs.declared.control.Control.TheVariants.{SessionAttach, SessionAttached, SessionCommandPoint, SessionCompleted}

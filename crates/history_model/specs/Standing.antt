@@ -1,5 +1,5 @@
 -- Which session each connection and channel has, and what each session heard.
-use Rattle.std.specs.Prelude.{ℕ, ◌+◌, ◌^◌, ◌==◌, ◌&&◌, nat_lt, not, Bool, is_some, if◌then◌else◌, List, [], ◌∷◌, length, Option, None, Some}
+use Rattle.std.specs.Prelude.{ℕ, ◌+◌, ◌^◌, ◌==◌, ◌&&◌, nat_lt, not, Bool, false, is_some, if◌then◌else◌, List, [], ◌∷◌, length, filter, Option, None, Some}
 use Rattle.std.specs.Map.{lookup, set_value}
 use Rattle.std.specs.BTreeMap.{insert_entry, is_at}
 use Rattle.std.specs.Ordering.{nat_cmp}
@@ -12,7 +12,7 @@ use Rattle.serial_ranges.specs.Serial.{unwrapped}
 use Rattle.amqp_terms.specs.declared.event.HubEvent.{HubEvent}
 use Rattle.amqp_terms.specs.declared.event.HubEvent.TheVariants as event
 use Rattle.history_model.specs.Arrivals.{Arrival, Hears, Restart}
-use Rattle.history_model.specs.Life.{Heard, Attach, Point, Does, next}
+use Rattle.history_model.specs.Life.{Heard, Attach, Point, Does, next, place}
 
 -- the connections that joined, who has each channel, and the lives by name
 pub record World : Type 0 where
@@ -77,12 +77,25 @@ abbrev pub hears_unit : World → ℕ → ℕ → AnyUnit → World
 hears_unit w connection channel (unit.Control control) = hears_control w connection channel control
 hears_unit w connection channel (unit.Command sync command content) = heard_at w (w.holder connection channel) Does
 
+-- whether a place is on this connection
+abbrev pub is_on : ℕ → Option (ℕ × ℕ) → Bool
+is_on connection None = false
+is_on connection (Some (c, k)) = c == connection
+
+-- a connection is lost: its channels are free, and the sessions on it end, as none asked for a timeout
+abbrev pub loses : World → ℕ → World
+loses w connection = record {
+  joined = w.joined;
+  holder = λ c k. if c == connection then None else w.holder c k;
+  lives = filter (λ row. not (is_on connection (place row.1))) w.lives;
+}
+
 -- what an event does
 abbrev pub after_event : World → HubEvent → World
 after_event w event.Join = record { joined = if nat_lt w.joined (2 ^ 62) then w.joined + 1 else w.joined; holder = w.holder; lives = w.lives }
 after_event w (event.Unit connection channel unit) = hears_unit w connection channel unit
 after_event w (event.Drain connection) = w
-after_event w (event.Lost connection) = w
+after_event w (event.Lost connection) = loses w connection
 after_event w (event.Tick now) = w
 
 -- the standing after all that was heard

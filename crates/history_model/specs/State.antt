@@ -1,5 +1,5 @@
 -- What the broker does for the sessions, and the queues that it then has.
-use Rattle.std.specs.Prelude.{ℕ, ◌+◌, ◌^◌, ◌==◌, ◌&&◌, ◌||◌, nat_lt, nat_le, not, Bool, true, false, is_some, if◌then◌else◌, List, [], ◌∷◌, ◌++◌, length, codes, nat_eq, Option, None, Some, fold}
+use Rattle.std.specs.Prelude.{ℕ, zero, suc, ◌+◌, ◌^◌, ◌==◌, ◌&&◌, ◌||◌, nat_lt, nat_le, not, Bool, true, false, if◌then◌else◌, List, [], ◌∷◌, ◌++◌, length, codes, nat_eq, Option, None, Some, fold}
 use Rattle.std.specs.List.{list_any, starts_with}
 use Rattle.std.specs.BTreeSet.{insert_key}
 use Rattle.std.specs.Ordering.{nat_cmp}
@@ -20,6 +20,7 @@ use Rattle.history_model.specs.Standing.{World, world, life_at, may_attach, poin
 pub data Act : Type 0 where
   Begin : (session : List ℕ) → Act
   Do : (session : List ℕ) → (number : ℕ) → (command : Command) → Act
+  End : (session : List ℕ) → Act
 
 -- the names of the queues, in order
 pub record State : Type 0 where
@@ -36,14 +37,28 @@ abbrev pub control_acts : World → ℕ → ℕ → Control → List Act
 control_acts w connection channel (SessionAttach (Some name) force) = if may_attach w connection channel name then Begin name ∷ [] else []
 control_acts w connection channel control = []
 
--- the acts of an event
+-- a session on a channel ends
+abbrev pub ends_on : Option (List ℕ) → List Act
+ends_on None = []
+ends_on (Some name) = End name ∷ []
+
+-- the sessions on so many channels of a connection end, from a channel on
+unfoldable pub ends_from : ℕ → World → ℕ → ℕ → List Act
+ends_from zero w connection channel = []
+ends_from (suc n) w connection channel = ends_on (w.holder connection channel) ++ ends_from n w connection (channel + 1)
+
+-- how many channels a connection may have
+unfoldable pub channels : ℕ
+channels = 65536
+
+-- the acts of an event; the sessions of a lost connection end by rising channel
 abbrev pub event_acts : World → HubEvent → List Act
 event_acts w event.Join = []
 event_acts w (event.Unit connection channel (unit.Control control)) = control_acts w connection channel control
 event_acts w (event.Unit connection channel (unit.Command sync command content)) =
     command_acts (w.holder connection channel) (life_at w (w.holder connection channel)) command
 event_acts w (event.Drain connection) = []
-event_acts w (event.Lost connection) = []
+event_acts w (event.Lost connection) = ends_from channels w connection 0
 event_acts w (event.Tick now) = []
 
 -- all acts, each new command once and in its session's order
@@ -61,6 +76,7 @@ does s command = s
 abbrev pub acted : State → Act → State
 acted s (Begin session) = s
 acted s (Do session number command) = does s command
+acted s (End session) = s
 
 -- the broker after all that was heard
 unfoldable pub state : List Arrival → State
@@ -101,9 +117,9 @@ abbrev pub may_point : Option (List Heard) → ℕ → ℕ → Bool
 may_point None id offset = false
 may_point (Some life) id offset = is_within (pointed (Some life) id offset) (next life)
 
--- the controls whose rules stand: attach of a new session, whose name one frame holds, and a right command-point
+-- the controls whose rules stand: attach of a new session, whose name its field holds, and a right command-point
 abbrev pub covers_control : World → ℕ → ℕ → Control → Bool
-covers_control w connection channel (SessionAttach (Some name) force) = (may_attach w connection channel name && not force) && nat_le (length name) 65517
+covers_control w connection channel (SessionAttach (Some name) force) = (may_attach w connection channel name && not force) && nat_le (length name) 65535
 covers_control w connection channel (SessionCommandPoint (Some id) (Some offset)) = may_point (life_at w (w.holder connection channel)) id offset
 covers_control w connection channel control = false
 
@@ -124,5 +140,5 @@ abbrev pub covered : World → State → HubEvent → Bool
 covered w s event.Join = true
 covered w s (event.Unit connection channel unit) = covers_unit w s connection channel unit
 covered w s (event.Drain connection) = true
-covered w s (event.Lost connection) = false
+covered w s (event.Lost connection) = true
 covered w s (event.Tick now) = false

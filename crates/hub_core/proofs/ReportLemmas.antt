@@ -1,7 +1,7 @@
 -- The rows of the code's table print as the lives do.
-use Rattle.std.proofs.Common.{◌≡◌, ℕ, ◌-◌, List, [], ◌∷◌, ◌++◌, length, flat_map, ◌∙◌, ap, sym, subst, refl, arith}
+use Rattle.std.proofs.Common.{◌≡◌, ℕ, ◌-◌, List, ◌++◌, length, flat_map, ◌∙◌, ap, sym, refl, arith}
 use Rattle.history_model.specs.declared.names.ConnName.{ConnName}
-use Rattle.history_model.specs.Life.{Heard, place, next, sent, kept, replies}
+use Rattle.history_model.specs.Life.{Heard, next, sent, replies}
 use Rattle.history_model.specs.Pairs.{Paired, none, more}
 use Rattle.history_model.specs.Report.{session_text, session_line, session_line_at, shown, trace_number}
 use Rattle.hub_core.specs.declared.session.Session.{Session}

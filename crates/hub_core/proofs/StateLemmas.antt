@@ -1,20 +1,20 @@
 -- The tables of the code and those of the definitions change alike.
-use Rattle.std.proofs.Common.{◌≡◌, ℕ, ◌<◌, ◌≤◌, ◌^◌, ◌&&◌, not, ltb, leb, Bool, true, false, List, [], ◌∷◌, length, Option, None, Some, is_some, ◌∙◌, ap, sym, subst, refl, arith, Result, Ok, Err, IfOk}
+use Rattle.std.proofs.Common.{◌≡◌, ℕ, ◌<◌, ◌≤◌, ◌^◌, ◌&&◌, not, ltb, leb, eqb, Bool, true, List, [], ◌∷◌, length, Option, None, Some, is_some, ◌∙◌, ap, sym, subst, refl, arith, Result, Ok, Err, IfOk}
 use Rattle.std.proofs.lemmas.Bool.{ltb-true, leb-true, false≢true, cond-true, and_parts}
+use Rattle.std.specs.List.{filter}
 use Rattle.std.specs.Map.{lookup, set_value}
-use Rattle.history_model.specs.Life.{Heard, next}
+use Rattle.history_model.specs.Life.{Heard, next, place}
 use Rattle.history_model.specs.Pairs.{Paired, Both}
-use Rattle.history_model.specs.Standing.{World, is_name, hears_in, hears_control, begins, may_attach, life_of}
+use Rattle.history_model.specs.Standing.{World, is_name, hears_in, hears_control, begins, may_attach, life_of, is_on}
 use Rattle.history_model.specs.State.{may_arrive}
 use Rattle.octet_reading.specs.declared.memory.NoMemory.{NoMemory}
 use Rattle.amqp_terms.specs.declared.control.Control.TheVariants.{SessionAttach}
 use Rattle.amqp_terms.specs.declared.event.Out.{Out}
 use Rattle.history_model.specs.Answers.{attach_answers, control_answers}
-use Rattle.history_model.proofs.Tables.{paired-lookup, paired-set, length-paired}
+use Rattle.history_model.proofs.Tables.{paired-lookup, paired-set, paired-filter, length-paired}
 use Rattle.hub_core.specs.declared.session.Session.{Session}
 use Rattle.hub_core.specs.declared.state.State.{State}
 use Rattle.hub_core.specs.Places.{holder_in}
-use Rattle.hub_core.specs.Receives.{Receives}
 use Rattle.hub_core.specs.Stands.{Sits, StandsAs, next_in}
 use Rattle.hub_core.proofs.ReceiverLemmas.{next_is}
 
@@ -88,3 +88,11 @@ attach_taken s w queues c k name force (Ok units) both h =
       h.0 ∙ sym (cond-true (may_attach w c k name) (attach_answers k name) [] may),
       subst (λ v. StandsAs s v queues) (sym (cond-true (may_attach w c k name) (begins w c k name) w may)) h.1,
     )
+
+-- the sessions that a lost connection leaves
+pub left_alike : (connection : ℕ) (old new : List (List ℕ × Session)) (lives : List (List ℕ × List Heard)) → new ≡ filter (λ row. not (eqb row.1.connection connection)) old
+    → Paired Sits old lives → Paired Sits new (filter (λ row. not (is_on connection (place row.1))) lives)
+left_alike connection old new lives e p =
+    subst (λ es. Paired Sits es (filter (λ row. not (is_on connection (place row.1))) lives)) (sym e)
+    (paired-filter Sits (λ row. not (eqb row.1.connection connection)) (λ row. not (is_on connection (place row.1)))
+    (λ name s life sits. ap (λ o. not (is_on connection o)) (sym sits.place_is)) p)

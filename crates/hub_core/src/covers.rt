@@ -16,8 +16,8 @@ use std::collections::{BTreeMap, BTreeSet};
 /// The most sessions that live at once.
 const MOST_SESSIONS: usize = 1024;
 
-/// The most octets of a session's name that one frame holds.
-const LONGEST_NAME: usize = 65_517;
+/// The most octets of a session's name.
+const LONGEST_NAME: usize = 65_535;
 
 /// The most queues.
 const MOST_QUEUES: usize = 65_536;
@@ -98,7 +98,7 @@ impl State {
                 unit,
             } => self.covers_unit(*conn, *channel, unit),
             HubEvent::Drain { .. } => true,
-            HubEvent::Lost { .. } => false,
+            HubEvent::Lost { .. } => true,
             HubEvent::Tick { .. } => false,
         }
     }

@@ -1,5 +1,5 @@
 //! The hub: what the broker's connections share, over its store.
-ghost use Rattle.std.specs.Prelude.{◌≡◌, ℕ, List, ◌∷◌, true, IfOk, OnErr};
+ghost use Rattle.std.specs.Prelude.{◌≡◌, ℕ, List, ◌∷◌, true, IfOk, IsOk, OnErr};
 ghost use Rattle.history_model.specs.Arrivals.{Arrival, Hears};
 ghost use Rattle.history_model.specs.Answers.{outs};
 ghost use Rattle.history_model.specs.Report.{closing_lines};
@@ -52,12 +52,13 @@ impl<K: Keeper> Hub<K> {
 
     /// Takes an event, and gives what goes out for it on its connection.
     ///
-    /// A `Join` draws a connection's number, from 1. Without memory the event is left out.
+    /// A `Join` draws a connection's number, from 1. Without memory the event is left out; a `Lost` takes none.
     pub fn step(&mut self, event: HubEvent) -> Result<Outs, NoMemory>
         ensures steps { (h : List Arrival) → Serves self.old h → covered (world h) (state h) event ≡ true
             → IfOk result (λ o. (o ≡ outs (world h) event) × Serves self.new (Hears event ∷ h)) }
         ensures unchanged { (h : List Arrival) → Serves self.old h → covered (world h) (state h) event ≡ true
             → OnErr result (Serves self.new h) }
+        ensures lost { (connection : ℕ) → event ≡ HubEvent.Lost connection → IsOk result }
         ensures keeper { keeper_of self.new ≡ keeper_of self.old }
     {
         let outs = self.state.step(&event);

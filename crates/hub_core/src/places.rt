@@ -67,6 +67,7 @@ impl Places {
         self.names.insert(place, name)?;
         Ok(())
     }
+
     /// Takes the channel from its session.
     pub(crate) fn clear(&mut self, connection: u64, channel: u16)
         ensures { (c k : ℕ) → holder_in self.new c k
@@ -76,5 +77,12 @@ impl Places {
             connection,
             channel,
         });
+    }
+
+    /// Takes all channels of a connection from their sessions. Takes no memory.
+    pub(crate) fn lose(&mut self, connection: u64)
+        ensures { (c k : ℕ) → holder_in self.new c k ≡ (if c == connection then None else holder_in self.old c k) }
+    {
+        self.names.retain(|place, _| place.connection != connection);
     }
 }

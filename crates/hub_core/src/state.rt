@@ -1,5 +1,5 @@
 //! The one state: connections, sessions and the broker's objects.
-ghost use Rattle.std.specs.Prelude.{◌≡◌, ℕ, List, [], ◌∷◌, Some, None, true, if◌then◌else◌, IfOk, OnOk, OnErr};
+ghost use Rattle.std.specs.Prelude.{◌≡◌, ◌==◌, ℕ, List, [], ◌∷◌, Some, None, true, not, filter, if◌then◌else◌, IfOk, IsOk, OnOk, OnErr};
 ghost use Rattle.std.specs.BTreeMap.{insert_entry};
 ghost use Rattle.std.specs.Cmp.Lexicographic.{slice_cmp};
 ghost use Rattle.std.specs.Map.{lookup};
@@ -7,7 +7,7 @@ ghost use Rattle.std.specs.Option.{option_copied};
 ghost use Rattle.std.specs.Ordering.{nat_cmp};
 ghost use Rattle.history_model.specs.Life.{Heard, Point, Does, number, is_new};
 ghost use Rattle.history_model.specs.Pairs.{Both, Paired};
-ghost use Rattle.history_model.specs.Standing.{World, life_at, may_attach, begins, heard_at, point_at, pointed, hears_in, hears_control, hears_unit, after_event, is_name};
+ghost use Rattle.history_model.specs.Standing.{World, life_at, may_attach, begins, heard_at, point_at, pointed, hears_in, hears_control, hears_unit, after_event, is_name, loses};
 ghost use Rattle.history_model.specs.State.{does, queues_by, queues_after, may_arrive, may_point, is_within, covers_control, covered};
 ghost use Rattle.history_model.specs.Answers.{answers, attach_answers, command_answers, control_answers, joined_as, outs};
 ghost use Rattle.history_model.specs.Report.{closing_lines};
@@ -80,6 +80,13 @@ fn point_in(sessions: &mut BTreeMap<Octets, Session>, name: &Octets, number: u64
         }
         None => {}
     }
+}
+
+/// Ends the sessions on a connection. Takes no memory.
+fn end_on(sessions: &mut BTreeMap<Octets, Session>, connection: u64)
+    ensures { sessions.new.entries ≡ filter (λ row. not (row.1.connection == connection)) sessions.old.entries }
+{
+    sessions.retain(|_, session| session.connection != connection);
 }
 
 impl State {
@@ -291,6 +298,14 @@ impl State {
         }
     }
 
+    /// A connection is lost: its channels are free, and the sessions on it end.
+    fn lose(&mut self, connection: u64)
+        ensures { (w : World) (queues : List (List ℕ)) → StandsAs self.old w queues → StandsAs self.new (loses w connection) queues }
+    {
+        self.places.lose(connection);
+        end_on(&mut self.sessions, connection);
+    }
+
     /// Takes a unit on a channel.
     fn hear(&mut self, connection: u64, channel: u16, unit: &Unit) -> Result<Items<Out>, NoMemory>
         ensures heard { (w : World) (queues : List (List ℕ)) → StandsAs self.old w queues → covered w (record { queues = queues }) (HubEvent.Unit connection channel unit.now) ≡ true
@@ -311,6 +326,7 @@ impl State {
             → IfOk result (λ o. (o ≡ outs w event.now) × StandsAs self.new (after_event w event.now) (queues_after w queues event.now)) }
         ensures unchanged { (w : World) (queues : List (List ℕ)) → StandsAs self.old w queues → covered w (record { queues = queues }) event.now ≡ true
             → OnErr result (StandsAs self.new w queues) }
+        ensures lost { (connection : ℕ) → event.now ≡ HubEvent.Lost connection → IsOk result }
     {
         match event {
             HubEvent::Join => {
@@ -330,7 +346,10 @@ impl State {
                 Ok(sent(units))
             }
             HubEvent::Drain { .. } => Ok(sent(Items::new(self.alloc))),
-            HubEvent::Lost { .. } => Ok(sent(Items::new(self.alloc))),
+            HubEvent::Lost { conn } => {
+                self.lose(*conn);
+                Ok(sent(Items::new(self.alloc)))
+            }
             HubEvent::Tick { .. } => Ok(sent(Items::new(self.alloc))),
         }
     }

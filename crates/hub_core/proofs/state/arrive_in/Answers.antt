@@ -1,5 +1,5 @@
 -- The session that was found took the command, and no other changed.
-use Rattle.std.proofs.Common.{◌≡◌, Some, subst, sym, ◌∙◌, arith}
+use Rattle.std.proofs.Common.{subst, sym, arith}
 use Rattle.std.specs.Map.{lookup}
 use Rattle.history_model.specs.Life.{Does}
 use Rattle.history_model.specs.Pairs.{Paired}

@@ -1,5 +1,5 @@
 -- Nothing was heard, and no queue is there.
-use Rattle.std.proofs.Common.{◌≡◌, [], sym, subst, refl}
+use Rattle.std.proofs.Common.{[], sym, subst, refl}
 use Rattle.history_model.specs.Standing.{world}
 use Rattle.history_model.proofs.States.{state_none}
 use Rattle.hub_core.specs.Stands.{StandsAs}

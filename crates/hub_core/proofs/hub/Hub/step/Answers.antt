@@ -1,5 +1,5 @@
 -- The state stands for one arrival more.
-use Rattle.std.proofs.Common.{◌≡◌, ◌∷◌, IfOk, sym, subst}
+use Rattle.std.proofs.Common.{◌≡◌, IfOk, sym, subst}
 use Rattle.history_model.specs.Answers.{outs}
 use Rattle.history_model.specs.Standing.{world, after_event}
 use Rattle.history_model.specs.State.{state}

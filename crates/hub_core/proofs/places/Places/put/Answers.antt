@@ -1,5 +1,5 @@
 -- The row of that channel is written, and a look-up of another finds what it found.
-use Rattle.std.proofs.Common.{◌≡◌, ◌&&◌, ℕ, List, Option, Some, cond, eqb, ◌∙◌, ap, sym, arith}
+use Rattle.std.proofs.Common.{◌≡◌, ◌&&◌, Some, cond, eqb, ◌∙◌, ap, sym, arith}
 use Rattle.std.specs.BTreeMap.{is_at, get}
 use Rattle.std.proofs.lemmas.Bool.Decides.{nat_tests}
 use Rattle.history_model.proofs.Tables.{lookup_same}

@@ -1,4 +1,4 @@
--- A connection joined, and nothing goes out.
+-- A connection joined, or was lost, and nothing goes out.
 use Rattle.std.proofs.Common.{◌≡◌, None, sym, subst, ap, ◌∙◌}
 use Rattle.amqp_terms.specs.declared.event.Outs.{Outs}
 use Rattle.amqp_terms.specs.declared.event.HubEvent.TheVariants as event
@@ -15,4 +15,12 @@ returns-in-Join-clause-steps c = λ w queues s covered.
     ap (λ j. record { joined = j; units = c.new.result; asked = None }) both.0 ∙ ap (λ u. record { joined = joined_as w event.Join; units = u; asked = None }) c.new.ensures in (
       subst (λ e. ◌≡◌ {A = Outs} (record { joined = c.join-joined.result; units = c.new.result; asked = None }) (outs w e)) (sym c.in-Join.is) gives,
       subst (λ e. StandsAs c.join-joined.new.self (after_event w e) (queues_after w queues e)) (sym c.in-Join.is) both.1,
+    )
+
+pub returns-in-Lost-clause-steps : goal.returns-in-Lost-clause-steps
+returns-in-Lost-clause-steps c = λ w queues s covered.
+    let none : c.sent-in-Lost.result ≡ outs w (event.Lost c.in-Lost.conn) =
+    c.sent-in-Lost.ensures ∙ ap (λ u. record { joined = None; units = u; asked = None }) c.new-in-Lost.ensures in (
+      subst (λ e. ◌≡◌ {A = Outs} c.sent-in-Lost.result (outs w e)) (sym c.in-Lost.is) none,
+      subst (λ e. StandsAs c.lose.new.self (after_event w e) (queues_after w queues e)) (sym c.in-Lost.is) (c.lose.ensures w queues s),
     )
