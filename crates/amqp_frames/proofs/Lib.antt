@@ -1,1 +1,5 @@
 pub mod Laying
+pub mod Touching
+pub mod Octets
+pub mod Lanes
+pub mod Taking

@@ -1,4 +1,8 @@
 pub mod Assembly
-pub mod Head
-pub mod Lay
 pub mod Frames
+pub mod Cut
+pub mod Gathered
+pub mod Lane
+pub mod Touched
+pub mod Partial
+pub mod Stands

@@ -1,14 +1,19 @@
-//! Frames of AMQP 0-10, "transport": assemblies of segments, the header of one whole frame, and a segment written as one frame.
+//! Frames of AMQP 0-10, "transport": octets to assemblies in any cut, and assemblies to octets.
 #![tactic(auto)]
 
+mod assembler;
 mod assembly;
+mod done;
 mod frames;
-mod head;
-mod lay;
+mod gathered;
+mod header;
+mod lane;
+mod partial;
 #[cfg(test)]
 mod tests;
+mod touched;
 
+pub use assembler::Assembler;
 pub use assembly::{Assembly, Segment};
+pub use done::{Done, Fed, FrameError, FrameFault};
 pub use frames::write_frames;
-pub use head::{FrameHead, frame_head};
-pub use lay::push_frame;

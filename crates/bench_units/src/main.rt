@@ -1,5 +1,7 @@
 //! `bench_units read N` and `bench_units write N`: a transfer with both structs of a header, a map of 20
-//! entries and a body, read or written N times. It prints how many octets that were; who times it, divides.
+//! entries and a body, read or written N times. `bench_units feed-P N`: its frames in a row, N times, fed to an
+//! assembler in pieces of P octets, 1, 64, 1500 or 65536. It prints how many octets that were; who times it,
+//! divides.
 #![tactic(auto)]
 
 ghost use Rattle.std.specs.Prelude.{◌≡◌, ◌<◌, true, length, IfSome};
@@ -8,7 +10,7 @@ ghost use Rattle.amqp_commands.specs.Spelled.{AllShort};
 ghost use Rattle.amqp_commands.specs.Units.{unit_fine};
 
 use amqp_commands::{read_unit, write_unit};
-use amqp_frames::{Assembly, Segment};
+use amqp_frames::{Assembler, Assembly, Fed, Segment, write_frames};
 use amqp_terms::Unit;
 use bytes::Bytes;
 use std::alloc::Global;
@@ -112,6 +114,55 @@ fn writes(alloc: Global, unit: &Unit, rounds: u32) -> bool
     true
 }
 
+/// Feeds a piece, and tells whether it was taken.
+fn feeds_piece(assembler: &mut Assembler, piece: &[u8]) -> bool {
+    let mut rest = piece;
+    while !rest.is_empty() {
+        match assembler.feed(rest) {
+            Ok(fed) => {
+                let Fed { taken, done } = fed;
+                drop(done);
+                let (_, after) = rest.split_at(taken);
+                rest = after;
+            }
+            Err(_) => return false,
+        }
+    }
+    true
+}
+
+/// Feeds the octets in pieces of such a size, and tells whether they were taken.
+fn feeds(assembler: &mut Assembler, octets: &[u8], size: usize) -> bool {
+    for piece in octets.chunks(size.max(1)) {
+        if !feeds_piece(assembler, piece) {
+            return false;
+        }
+    }
+    true
+}
+
+/// The frames of the assembly so many times; none without memory.
+fn frames_of(alloc: Global, assembly: &Assembly, rounds: u32) -> Option<Vec<u8>> {
+    let mut octets = Vec::new(alloc);
+    for _ in 0..rounds {
+        if write_frames(alloc, 1, assembly, 65_535, &mut octets).is_err() {
+            return None;
+        }
+    }
+    Some(octets)
+}
+
+/// Feeds the frames of the assembly so many times in pieces of such a size, and tells whether they were taken.
+fn feeds_all(alloc: Global, assembly: &Assembly, size: usize, rounds: u32) -> bool {
+    let Ok(mut assembler) = Assembler::new(alloc, 65_535, 0) else {
+        return false;
+    };
+    match frames_of(alloc, assembly, rounds) {
+        Some(octets) => feeds(&mut assembler, octets.as_slice(), size),
+        None => false,
+    }
+}
+
 /// Does what a word asks for so many times; where it can't, gives nothing.
 fn run(alloc: Global, word: &str, rounds: u32) -> Option<u64> {
     let assembly = transfer(alloc)?;
@@ -126,6 +177,10 @@ fn run(alloc: Global, word: &str, rounds: u32) -> Option<u64> {
             }
             Err(_) => false,
         },
+        "feed-1" => feeds_all(alloc, &assembly, 1, rounds),
+        "feed-64" => feeds_all(alloc, &assembly, 64, rounds),
+        "feed-1500" => feeds_all(alloc, &assembly, 1_500, rounds),
+        "feed-65536" => feeds_all(alloc, &assembly, 65_536, rounds),
         _ => false,
     };
     if done { Some(size) } else { None }

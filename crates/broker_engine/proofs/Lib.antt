@@ -1,1 +1,3 @@
-pub mod Heads
+pub mod Saying
+pub mod Said
+pub mod Hears

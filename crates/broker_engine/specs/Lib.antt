@@ -1,3 +1,4 @@
+pub mod Talk
+pub mod Wire
 pub mod Feeds
 pub mod Trace
-pub mod Units

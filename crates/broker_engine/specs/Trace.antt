@@ -1,93 +1,111 @@
 -- What the events of a trace are to the hub, and what they send.
-use Rattle.std.specs.Prelude.{ℕ, zero, suc, ◌==◌, if◌then◌else◌, List, [], ◌∷◌, ◌++◌, length, take, drop, codes, flat_map, Option, None, Some}
+use Rattle.std.specs.Prelude.{ℕ, ◌==◌, if◌then◌else◌, List, [], ◌∷◌, ◌++◌, codes, flat_map, Option, None, Some}
 use Rattle.std.specs.Fmt.{decimal}
-use Rattle.std.specs.Map.{lookup}
+use Rattle.std.specs.Map.{lookup, set_value, remove_entry}
 use Rattle.std.specs.BTreeMap.{insert_entry}
 use Rattle.std.specs.Ordering.{nat_cmp}
 use Rattle.hex.specs.Hex.{encode_lower}
-use Rattle.amqp_terms.specs.declared.unit.Unit.{Unit as AnyUnit}
+use Rattle.octet_reading.specs.Words.{word_of}
 use Rattle.amqp_terms.specs.declared.event.HubEvent.{HubEvent}
 use Rattle.amqp_terms.specs.declared.event.HubEvent.TheVariants as event
-use Rattle.amqp_frames.specs.declared.head.FrameHead.{FrameHead}
-use Rattle.amqp_frames.specs.Head.{head_of}
 use Rattle.history_model.specs.declared.trace.TraceEvent.{TraceEvent}
 use Rattle.history_model.specs.declared.trace.TraceEvent.TheVariants as trace
 use Rattle.history_model.specs.Arrivals.{Arrival, Hears}
 use Rattle.history_model.specs.Standing.{world}
 use Rattle.history_model.specs.State.{state, covered}
 use Rattle.history_model.specs.Answers.{answers, joined_as}
-use Rattle.broker_engine.specs.Units.{unit_in, out_octets}
+use Rattle.broker_engine.specs.declared.conn.Closing.{Closing}
+use Rattle.broker_engine.specs.Talk.{Brings, Nothing, Passes, Closes, Talk, Open, Shut, brings_octet, talk_octet, talk}
+use Rattle.broker_engine.specs.Wire.{out_octets, close_octets}
 
--- a unit that came, and the octets of its frame
-pub record Came : Type 0 where
-  pub size : ℕ
-  pub channel : ℕ
-  pub unit : AnyUnit
-
--- the unit of a frame
-abbrev pub came_in : FrameHead → Option AnyUnit → Option Came
-came_in head None = None
-came_in head (Some unit) = Some (record { size = head.size; channel = head.channel; unit = unit })
-
--- the unit of the frame that the octets begin with
-abbrev pub came_by : List ℕ → Option FrameHead → Option Came
-came_by octets None = None
-came_by octets (Some head) = came_in head (unit_in head.kind (drop 12 (take head.size octets)))
-
-abbrev pub first_unit : List ℕ → Option Came
-first_unit octets = came_by octets (head_of octets)
-
--- what went out, and all that was heard
+-- what went out for a piece, all that was heard, and where the connection ended
 pub record Went : Type 0 where
   pub sent : List ℕ
   pub heard : List Arrival
+  pub refused : Option Closing
 
 -- with this sent before
 abbrev pub sent_before : List ℕ → Option Went → Option Went
 sent_before octets None = None
-sent_before octets (Some w) = Some (record { sent = octets ++ w.sent; heard = w.heard })
+sent_before octets (Some w) = Some (record { sent = octets ++ w.sent; heard = w.heard; refused = w.refused })
 
 -- a unit is heard where its rules are built
 abbrev pub hear_unit : List Arrival → HubEvent → (List Arrival → Option Went) → Option Went
 hear_unit h e rest = if covered (world h) (state h) e then sent_before (flat_map out_octets (answers (world h) e)) (rest (Hears e ∷ h)) else None
 
-abbrev pub hear_came : ℕ → List Arrival → Option Came → (ℕ → List Arrival → Option Went) → Option Went
-hear_came connection h None rest = None
-hear_came connection h (Some came) rest = hear_unit h (event.Unit connection came.channel came.unit) (rest came.size)
+-- a fault is told to the peer, and the connection is lost
+abbrev pub hear_end : ℕ → Closing → List Arrival → Option Went
+hear_end connection closing h = Some (record { sent = close_octets closing.why; heard = Hears (event.Lost connection) ∷ h; refused = Some closing })
 
--- a piece of octets is heard frame by frame, at most so many, and a drain follows it
-abbrev pub hear_piece : ℕ → ℕ → List ℕ → List Arrival → Option Went
-hear_piece fuel connection [] h = Some (record { sent = []; heard = Hears (event.Drain connection) ∷ h })
-hear_piece zero connection (octet ∷ octets) h = None
-hear_piece (suc fuel) connection (octet ∷ octets) h =
-    hear_came connection h (first_unit (octet ∷ octets)) (λ size more. hear_piece fuel connection (drop size (octet ∷ octets)) more)
+abbrev pub hear_brings : ℕ → Brings → List Arrival → (List Arrival → Option Went) → Option Went
+hear_brings connection Nothing h rest = rest h
+hear_brings connection (Passes channel unit) h rest = hear_unit h (event.Unit connection channel unit) rest
+hear_brings connection (Closes closing) h rest = hear_end connection closing h
 
--- the number that a trace's connection has in the hub; a connection that joins gets the next
-abbrev pub put_joined : List (ℕ × ℕ) → ℕ → Option ℕ → List (ℕ × ℕ)
-put_joined rows connection None = rows
-put_joined rows connection (Some number) = insert_entry nat_cmp rows connection number
+-- the octets of an open connection are heard one by one, and a drain follows them
+abbrev pub hear_octets : ℕ → Talk → List ℕ → List Arrival → Option Went
+hear_octets connection t [] h = Some (record { sent = []; heard = Hears (event.Drain connection) ∷ h; refused = None })
+hear_octets connection t (octet ∷ octets) h = hear_brings connection (brings_octet t octet) h (λ more. hear_octets connection (talk_octet t octet) octets more)
+
+-- a Closed one hears nothing
+abbrev pub hear_piece : ℕ → Talk → List ℕ → List Arrival → Option Went
+hear_piece connection (Open cutting) octets h = hear_octets connection (Open cutting) octets h
+hear_piece connection Shut octets h = Some (record { sent = []; heard = h; refused = None })
 
 -- what an outcome leaves heard
 abbrev pub heard_by : Option Went → List Arrival → List Arrival
 heard_by None h = h
 heard_by (Some w) h = w.heard
 
-abbrev pub hear_bytes : Option ℕ → List ℕ → List Arrival → Option Went
-hear_bytes None octets h = None
-hear_bytes (Some number) octets h = hear_piece (length octets) number octets h
+-- a connection of a trace: its number in the hub, and all octets of its peer
+pub record Link : Type 0 where
+  pub number : ℕ
+  pub heard : List ℕ
 
--- the connections of a trace with their numbers in the hub, and what the hub heard
+abbrev pub hear_link : Option Link → List ℕ → List Arrival → Option Went
+hear_link None octets h = None
+hear_link (Some link) octets h = hear_piece link.number (talk link.heard) octets h
+
+-- the connections of a trace by their numbers there, and what the hub heard
 pub record Past : Type 0 where
-  pub connections : List (ℕ × ℕ)
+  pub connections : List (ℕ × Link)
   pub arrivals : List Arrival
+
+-- the connection of this number
+abbrev pub link_of : Past → ℕ → Option Link
+link_of p connection = lookup (λ n. n == connection) p.connections
+
+-- a connection that joins gets a number of the hub
+abbrev pub put_joined : List (ℕ × Link) → ℕ → Option ℕ → List (ℕ × Link)
+put_joined rows connection None = rows
+put_joined rows connection (Some number) = insert_entry nat_cmp rows connection (record { number = number; heard = [] })
+
+-- its peer sent octets
+abbrev pub put_octets : List (ℕ × Link) → ℕ → Option Link → List ℕ → List (ℕ × Link)
+put_octets rows connection None octets = rows
+put_octets rows connection (Some link) octets = set_value (λ n. n == connection) rows (record { number = link.number; heard = link.heard ++ octets })
+
+-- it is lost
+abbrev pub lose_link : Option Link → List Arrival → List Arrival
+lose_link None h = h
+lose_link (Some link) h = Hears (event.Lost link.number) ∷ h
+
+-- deliveries may go out, unless it is Closed
+abbrev pub drain_talk : Talk → ℕ → List Arrival → List Arrival
+drain_talk (Open cutting) number h = Hears (event.Drain number) ∷ h
+drain_talk Shut number h = h
+
+abbrev pub drain_link : Option Link → List Arrival → List Arrival
+drain_link None h = h
+drain_link (Some link) h = drain_talk (talk link.heard) link.number h
 
 -- after an event; the events that aren't built leave all as it is
 abbrev pub past_event : Past → TraceEvent → Past
 past_event p (trace.Ready c) = record { connections = put_joined p.connections c (joined_as (world p.arrivals) event.Join); arrivals = Hears event.Join ∷ p.arrivals }
 past_event p (trace.Open c) = p
-past_event p (trace.Bytes c octets) = record { connections = p.connections; arrivals = heard_by (hear_bytes (lookup (λ n. n == c) p.connections) octets p.arrivals) p.arrivals }
-past_event p (trace.Lose c) = p
-past_event p (trace.Quiet c) = p
+past_event p (trace.Bytes c octets) = record { connections = put_octets p.connections c (link_of p c) octets; arrivals = heard_by (hear_link (link_of p c) octets p.arrivals) p.arrivals }
+past_event p (trace.Lose c) = record { connections = remove_entry (λ n. n == c) p.connections; arrivals = lose_link (link_of p c) p.arrivals }
+past_event p (trace.Quiet c) = record { connections = p.connections; arrivals = drain_link (link_of p c) p.arrivals }
 past_event p (trace.Tick now) = p
 past_event p trace.Restart = p
 
@@ -100,3 +118,17 @@ past (e ∷ t) = past_event (past t) e
 abbrev pub to_line : ℕ → List ℕ → List ℕ
 to_line connection [] = []
 to_line connection (octet ∷ octets) = codes "to " ++ decimal connection ++ codes " " ++ encode_lower (octet ∷ octets) ++ codes "\n"
+
+-- the segment and the index of a unit's fault
+abbrev pub segment_text : Option (ℕ × ℕ) → List ℕ
+segment_text None = codes " - - "
+segment_text (Some (segment, at)) = codes " " ++ decimal segment ++ codes " " ++ decimal at ++ codes " "
+
+-- where the fault is
+abbrev pub refused_front : ℕ → ℕ → List ℕ
+refused_front connection at = codes "refused " ++ decimal connection ++ codes " " ++ decimal at
+
+-- the line of a connection that was refused, if it was
+abbrev pub refused_line : ℕ → Option Closing → List ℕ
+refused_line connection None = []
+refused_line connection (Some closing) = refused_front connection closing.at ++ segment_text closing.segment ++ word_of closing.why ++ codes "\n"

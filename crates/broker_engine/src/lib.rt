@@ -2,8 +2,6 @@
 #![tactic(auto)]
 
 mod conn;
-mod read;
 mod write;
 
-pub use conn::{Fed, FeedFault, feed};
-pub use write::push_outs;
+pub use conn::{Closing, Conn, Fed};

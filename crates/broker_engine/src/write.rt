@@ -1,110 +1,119 @@
 //! Units to octets.
-ghost use Rattle.std.specs.Prelude.{◌≡◌, ◌++◌, Some, None, IfOk, OnOk, flat_map};
-ghost use Rattle.broker_engine.specs.Units.{attached_octets, point_octets, completed_octets, control_octets, unit_octets, out_octets, range_octets};
-ghost use Rattle.std.specs.Option.{option_map};
+ghost use Rattle.std.specs.Prelude.{◌≡◌, ◌≤◌, ◌++◌, ◌&&◌, length, nat_lt, true, OnOk, IfOk, flat_map};
+ghost use Rattle.std.specs.List.{list_all};
+ghost use Rattle.amqp_packed.specs.Spelling.{range_fine};
+ghost use Rattle.amqp_commands.specs.Units.{unit_fine};
+ghost use Rattle.broker_engine.specs.Wire.{is_one, is_said, is_said_control, laid_unit, out_octets, close_octets, close_unit};
 
-use amqp_frames::push_frame;
+use amqp_commands::write_unit;
+use amqp_frames::write_frames;
 use amqp_terms::{Control, Out, Unit};
-use amqp_values::{NoMemory, Range};
+use amqp_values::{NoMemory, Range, Text, Why};
 use std::alloc::Global;
 
-/// One more than the most octets that one frame holds.
-const TOO_MANY: usize = 65_524;
+/// The largest frame of a connection whose negotiation is done.
+pub(crate) const LARGEST: u16 = 65_535;
 
-/// session.attached; none where its name is too long for a vbin16.
-#[tactic(auto, unfolding(crate::specs::Units::attached_octets))]
-fn attached_of(alloc: Global, name: &[u8]) -> Result<Option<Vec<u8>>, NoMemory>
-    ensures { IfOk result (λ octets. option_map (λ v. v.items) octets ≡ attached_octets name.now) }
-{
-    let Ok(size) = u16::try_from(name.len()) else {
-        return Ok(None);
-    };
-    let mut octets = Vec::from_slice(alloc, [2, 2, 1, 0].as_slice())?;
-    octets.extend_from_slice(size.to_be_bytes().as_slice())?;
-    octets.extend_from_slice(name)?;
-    Ok(Some(octets))
-}
+/// The reply-code of a connection that is closed for what its peer sent (AMQP 0-10, "connection.close").
+const FRAMING_ERROR: u16 = 501;
 
-/// session.command-point.
-#[tactic(auto, unfolding(crate::specs::Units::point_octets))]
-fn point_of(alloc: Global, id: u32, offset: u64) -> Result<Option<Vec<u8>>, NoMemory>
-    ensures { IfOk result (λ octets. option_map (λ v. v.items) octets ≡ point_octets id offset) }
-{
-    let mut octets = Vec::from_slice(alloc, [2, 7, 3, 0].as_slice())?;
-    octets.extend_from_slice(id.to_be_bytes().as_slice())?;
-    octets.extend_from_slice(offset.to_be_bytes().as_slice())?;
-    Ok(Some(octets))
-}
+/// The most octets of a session's name.
+const LONGEST_NAME: usize = 65_535;
 
-/// Puts pairs of serials at the text's end.
-fn push_ranges(octets: &mut Vec<u8>, ranges: &[Range]) -> Result<(), NoMemory>
-    ensures { OnOk result (octets.new.items ≡ octets.old.items ++ flat_map range_octets ranges.now) }
+/// Whether the ranges are one number.
+fn is_one(ranges: &[Range]) -> bool
+    ensures value { result ≡ is_one ranges.now }
+    ensures fine { result ≡ true → (nat_lt (length ranges.now) 8192 && list_all range_fine ranges.now) ≡ true }
 {
-    for range in ranges {
-        octets.extend_from_slice(range.lower.to_be_bytes().as_slice())?;
-        octets.extend_from_slice(range.upper.to_be_bytes().as_slice())?;
+    match ranges {
+        [range] => range.lower == range.upper,
+        _ => false,
     }
-    Ok(())
 }
 
-/// session.completed; none where it has too many ranges.
-#[tactic(auto, unfolding(crate::specs::Units::completed_octets))]
-fn completed_of(alloc: Global, ranges: &[Range]) -> Result<Option<Vec<u8>>, NoMemory>
-    ensures { IfOk result (λ octets. option_map (λ v. v.items) octets ≡ completed_octets ranges.now) }
-{
-    if ranges.len() >= 8_192 {
-        return Ok(None);
-    }
-    let size = 8 * ranges.len() as u16;
-    let mut octets = Vec::from_slice(alloc, [2, 10, 1, 0].as_slice())?;
-    octets.extend_from_slice(size.to_be_bytes().as_slice())?;
-    push_ranges(&mut octets, ranges)?;
-    Ok(Some(octets))
-}
-
-/// The segment of a control that is sent.
-fn control_of(alloc: Global, control: &Control) -> Result<Option<Vec<u8>>, NoMemory>
-    ensures { IfOk result (λ octets. option_map (λ v. v.items) octets ≡ control_octets control.now) }
+/// Whether the hub sends such a control: attached, command-point, or completed with one number.
+fn is_said_control(control: &Control) -> bool
+    ensures value { result ≡ is_said_control control.now }
+    ensures fine { result ≡ true → unit_fine (Unit.Control control.now) ≡ true }
 {
     match control {
-        Control::SessionAttached { name: Some(name) } => attached_of(alloc, name.as_slice()),
+        Control::SessionAttached { name: Some(name) } => name.len() <= LONGEST_NAME,
         Control::SessionCommandPoint {
             command_id: Some(id),
             command_offset: Some(offset),
-        } => point_of(alloc, *id, *offset),
+        } => {
+            let _id = *id;
+            let _offset = *offset;
+            true
+        }
         Control::SessionCompleted {
             commands: Some(ranges),
             timely_reply: false,
-        } => completed_of(alloc, ranges.as_slice()),
-        _ => Ok(None),
+        } => is_one(ranges.as_slice()),
+        _ => false,
     }
 }
 
-/// Puts a unit in its frame at the text's end.
-fn push_unit(alloc: Global, text: &mut Vec<u8>, channel: u16, unit: &Unit) -> Result<(), NoMemory>
-    ensures { OnOk result (text.new.items ≡ text.old.items ++ unit_octets channel unit.now) }
+/// Whether the hub sends such a unit.
+fn is_said(unit: &Unit) -> bool
+    ensures value { result ≡ is_said unit.now }
+    ensures fine { result ≡ true → unit_fine unit.now ≡ true }
 {
     match unit {
-        Unit::Control(control) => match control_of(alloc, control)? {
-            Some(payload) => {
-                if payload.len() < TOO_MANY {
-                    push_frame(text, 0, channel, payload.as_slice())
-                } else {
-                    Ok(())
-                }
-            }
-            None => Ok(()),
-        },
-        Unit::Command { .. } => Ok(()),
+        Unit::Control(control) => is_said_control(control),
+        Unit::Command { .. } => false,
     }
 }
 
-/// Puts units in their frames at the text's end.
-pub fn push_outs(alloc: Global, text: &mut Vec<u8>, outs: &[Out]) -> Result<(), NoMemory>
-    ensures { OnOk result (text.new.items ≡ text.old.items ++ flat_map out_octets outs.now) }
+/// Puts a unit that has a spelling in its frames at the octets' end.
+fn push_unit(alloc: Global, out: &mut Vec<u8>, channel: u16, unit: &Unit) -> Result<(), NoMemory>
+    requires { unit_fine unit.now ≡ true }
+    ensures { OnOk result (out.new.items ≡ out.old.items ++ laid_unit channel unit.now 65535) }
 {
-    for out in outs {
-        push_unit(alloc, text, out.channel, &out.unit)?;
+    let assembly = write_unit(alloc, unit)?;
+    write_frames(alloc, channel, &assembly, LARGEST, out)
+}
+
+/// Puts what goes out in its frames at the octets' end.
+fn push_out(alloc: Global, out: &mut Vec<u8>, sent: &Out) -> Result<(), NoMemory>
+    ensures { OnOk result (out.new.items ≡ out.old.items ++ out_octets sent.now) }
+{
+    if is_said(&sent.unit) {
+        push_unit(alloc, out, sent.channel, &sent.unit)
+    } else {
+        Ok(())
+    }
+}
+
+/// Puts all that goes out at the octets' end.
+pub(crate) fn push_outs(alloc: Global, out: &mut Vec<u8>, outs: &[Out]) -> Result<(), NoMemory>
+    ensures { OnOk result (out.new.items ≡ out.old.items ++ flat_map out_octets outs.now) }
+{
+    for sent in outs {
+        push_out(alloc, out, sent)?;
     }
     Ok(())
+}
+
+/// connection.close for a reason.
+#[tactic(auto, using(crate::proofs::Said::word_short))]
+fn close_of(alloc: Global, why: Why) -> Result<Unit, NoMemory>
+    ensures unit { IfOk result (λ unit. unit ≡ close_unit why) }
+    ensures fine { IfOk result (λ unit. unit_fine unit ≡ true) }
+{
+    let reply_text = Some(Text::from_text(alloc, why.word())?);
+    Ok(Unit::Control(Control::ConnectionClose {
+        reply_code: Some(FRAMING_ERROR),
+        reply_text,
+    }))
+}
+
+/// Puts connection.close for a reason at the octets' end.
+pub(crate) fn push_close(alloc: Global, out: &mut Vec<u8>, why: Why) -> Result<(), NoMemory>
+    ensures { OnOk result (out.new.items ≡ out.old.items ++ close_octets why) }
+{
+    let unit = close_of(alloc, why)?;
+    let written = push_unit(alloc, out, 0, &unit);
+    drop(unit);
+    written
 }

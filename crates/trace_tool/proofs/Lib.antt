@@ -1,2 +1,2 @@
-pub mod Pieced
 pub mod Pieces
+pub mod Linking

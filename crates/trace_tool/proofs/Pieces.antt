@@ -1,22 +1,28 @@
--- A piece is heard frame by frame.
-use Rattle.std.proofs.Common.{◌≡◌, ℕ, zero, suc, ◌+◌, ◌-◌, ◌<◌, ◌≤◌, List, [], ◌∷◌, ◌++◌, length, take, drop, Option, None, Some, ◌∙◌, ap, sym, refl, arith}
-use Rattle.std.proofs.lemmas.List.{append-nil, append_assoc, take_rest, length-drop}
+-- A piece is heard unit by unit.
+use Rattle.std.proofs.Common.{◌≡◌, ℕ, eqb, true, false, List, [], ◌∷◌, ◌++◌, length, take, drop, fold, Option, None, Some, Err, ◌∙◌, ap, sym, subst, refl, arith, append_assoc}
+use Rattle.std.proofs.lemmas.Bool.{eqb-true}
+use Rattle.std.proofs.lemmas.List.{append-nil, take-append-drop, length-drop}
+use Rattle.std.proofs.Math.Seq.{take-length}
+use Rattle.amqp_terms.specs.declared.unit.Unit.{Unit as AnyUnit}
 use Rattle.amqp_terms.specs.declared.event.HubEvent.TheVariants as event
 use Rattle.history_model.specs.Arrivals.{Arrival, Hears}
-use Rattle.broker_engine.specs.Trace.{Went, first_unit, hear_came, hear_piece, sent_before}
+use Rattle.broker_engine.specs.declared.conn.Closing.{Closing}
+use Rattle.broker_engine.specs.declared.conn.Conn.{Conn}
+use Rattle.broker_engine.specs.declared.conn.Fed.{Fed}
+use Rattle.broker_engine.specs.declared.conn.State.{State}
+use Rattle.broker_engine.specs.declared.conn.State.TheVariants as state
+use Rattle.amqp_frames.specs.Cut.{cut}
+use Rattle.broker_engine.specs.Talk.{Talk, Open, Shut, Says, Waits, Tells, Ends, talk_octet, talk, says, is_shut}
+use Rattle.broker_engine.specs.Feeds.{Talks, TalksAs, Fits}
+use Rattle.broker_engine.specs.Trace.{Went, sent_before, hear_unit, hear_octets, hear_piece}
+use Rattle.broker_engine.specs.Wire.{close_octets}
+use Rattle.broker_engine.proofs.Saying.{talk_parts}
+use Rattle.broker_engine.proofs.Hears.{HeardAs, heard_as}
 use Rattle.hub_core.specs.declared.hub.Hub.{Hub}
 use Rattle.hub_core.specs.Hub.{Serves}
-use Rattle.trace_tool.specs.Hearing.{HeardFrame, HeardPiece}
-
--- frames were heard, and the rest follows
-pub record Going {K : Type 0} (hub : Hub K) (h : List Arrival) (number : ℕ) (octets rest old new : List ℕ) : Type 0 where
-  pub sofar : List ℕ
-  pub then_ : List Arrival
-  pub fuel : ℕ
-  pub goes : hear_piece (length octets) number octets h ≡ sent_before sofar (hear_piece fuel number rest then_)
-  pub enough : length rest ≤ fuel
-  pub sent : new ≡ old ++ sofar
-  pub serves : Serves hub then_
+use Rattle.line_runs.specs.declared.tool.Stop.{Stop}
+use Rattle.line_runs.specs.declared.tool.Stop.TheVariants.{BadLine, Unbuilt, NoMemory}
+use Rattle.trace_tool.specs.Hearing.{HeardOne, UnitDone, HeardSome, HeardEnd, SomeDone, HeardPiece, PieceDone}
 
 sent_none : (w : Option Went) → w ≡ sent_before [] w
 sent_none None = refl
@@ -24,59 +30,220 @@ sent_none (Some w) = refl
 
 sent_twice : (a b : List ℕ) (w : Option Went) → sent_before a (sent_before b w) ≡ sent_before (a ++ b) w
 sent_twice a b None = refl
-sent_twice a b (Some w) = ap (λ xs. Some (record { sent = xs; heard = w.heard })) (sym (append_assoc a b w.sent))
+sent_twice a b (Some w) = ap (λ xs. Some (record { sent = xs; heard = w.heard; refused = w.refused })) (sym (append_assoc a b w.sent))
 
--- one frame of a piece
-frame_of : (fuel number : ℕ) (octets : List ℕ) (h : List Arrival) → 0 < length octets → length octets ≤ fuel
-    → (f : ℕ) × (length octets ≤ f + 1) × (hear_piece fuel number octets h ≡ hear_came number h (first_unit octets) (λ size more. hear_piece f number (drop size octets) more))
-frame_of fuel number [] h some enough = absurd (omega arith)
-frame_of zero number (x ∷ xs) h some enough = absurd (omega arith)
-frame_of (suc f) number (x ∷ xs) h some enough = (f, omega arith, refl)
+no_octets : (xs : List ℕ) → length xs ≡ 0 → xs ≡ []
+no_octets [] e = refl
+no_octets (x ∷ xs) e = absurd (omega arith)
 
-pub going_start : {K : Type 0} (hub : Hub K) (h : List Arrival) (number : ℕ) (octets old : List ℕ) → Serves hub h → Going hub h number octets octets old old
-going_start hub h number octets old s = record {
-  sofar = [];
-  then_ = h;
-  fuel = length octets;
-  goes = sent_none (hear_piece (length octets) number octets h);
-  enough = omega arith;
-  sent = sym (append-nil old);
-  serves = s;
+-- ---- what a connection gave
+
+-- a unit
+pub record Told (s : Says) (taken k : ℕ) (u : AnyUnit) (old new : List ℕ) : Type 0 where
+  pub says_is : s ≡ Tells taken k u
+  pub same : new ≡ old
+
+pub told : (s : Says) (all taken k : ℕ) (u : AnyUnit) (closed : Option Closing) (old new : List ℕ) → Fits s all (record { taken = taken; unit = Some (k, u); closed = closed }) old new → Told s taken k u old new
+told Waits all taken k u closed old new f = let e : Some (k, u) ≡ None = ap (λ (x : Fed). x.unit) f.0 in absurd (cc e)
+told (Tells n j v) all taken k u closed old new f =
+    let e : Some (k, u) ≡ Some (j, v) = ap (λ (x : Fed). x.unit) f.0 in
+    let n_is : taken ≡ n = ap (λ (x : Fed). x.taken) f.0 in
+    let both : ◌≡◌ {A = ℕ × AnyUnit} (k, u) (j, v) = cc e in
+    let k_is : k ≡ j = ap (λ (x : ℕ × AnyUnit). x.0) both in
+    let u_is : u ≡ v = ap (λ (x : ℕ × AnyUnit). x.1) both in
+    record { says_is = ap (λ m. Tells m j v) (sym n_is) ∙ ap (λ m. Tells taken m v) (sym k_is) ∙ ap (λ m. Tells taken k m) (sym u_is); same = f.1 }
+told (Ends closing) all taken k u closed old new f = let e : Some (k, u) ≡ None = ap (λ (x : Fed). x.unit) f.0 in absurd (cc e)
+
+-- the end
+pub record Ended (s : Says) (all taken : ℕ) (closing : Closing) (old new : List ℕ) : Type 0 where
+  pub says_is : s ≡ Ends closing
+  pub all_is : taken ≡ all
+  pub sent : new ≡ old ++ close_octets closing.why
+
+pub ended : (s : Says) (all taken : ℕ) (closing : Closing) (old new : List ℕ) → Fits s all (record { taken = taken; unit = None; closed = Some closing }) old new → Ended s all taken closing old new
+ended Waits all taken closing old new f = let e : Some closing ≡ None = ap (λ (x : Fed). x.closed) f.0 in absurd (cc e)
+ended (Tells n j v) all taken closing old new f = let e : Some closing ≡ None = ap (λ (x : Fed). x.closed) f.0 in absurd (cc e)
+ended (Ends c) all taken closing old new f =
+    let e : Some closing ≡ Some c = ap (λ (x : Fed). x.closed) f.0 in
+    let same : closing ≡ c = cc e in
+    record { says_is = ap Ends (sym same); all_is = ap (λ (x : Fed). x.taken) f.0; sent = f.1 ∙ ap (λ (x : Closing). old ++ close_octets x.why) (sym same) }
+
+-- nothing
+pub record Waited (s : Says) (all taken : ℕ) (old new : List ℕ) : Type 0 where
+  pub says_is : s ≡ Waits
+  pub all_is : taken ≡ all
+  pub same : new ≡ old
+
+pub waited : (s : Says) (all taken : ℕ) (old new : List ℕ) → Fits s all (record { taken = taken; unit = None; closed = None }) old new → Waited s all taken old new
+waited Waits all taken old new f = record { says_is = refl; all_is = ap (λ (x : Fed). x.taken) f.0; same = f.1 }
+waited (Tells n j v) all taken old new f = let e : None ≡ Some (j, v) = ap (λ (x : Fed). x.unit) f.0 in absurd (cc e)
+waited (Ends c) all taken old new f = let e : None ≡ Some c = ap (λ (x : Fed). x.closed) f.0 in absurd (cc e)
+
+-- ---- octets up to the end of a unit
+
+-- a unit was heard
+pub some_unit : {K : Type 0} (hub : Hub K) (conn : Conn) (h : List Arrival) (n : ℕ) (before octets old mid new : List ℕ) (taken k : ℕ) (u : AnyUnit)
+    → Told (says (talk before) octets) taken k u old mid → Talks conn (before ++ take taken octets) → HeardOne hub h (event.Unit n k u) mid new
+    → HeardSome hub conn h n before octets old new taken
+some_unit hub conn h n before octets old mid new taken k u t talks one = record {
+  more = one.more;
+  then_ = Hears (event.Unit n k u) ∷ h;
+  goes = subst (λ s. HeardAs s n (talk before) octets h) t.says_is (heard_as n (talk before) octets h)
+      ∙ one.goes (λ more. hear_octets n (fold talk_octet (talk before) (take taken octets)) (drop taken octets) more)
+      ∙ ap (λ x. sent_before one.more (hear_octets n x (drop taken octets) (Hears (event.Unit n k u) ∷ h))) (sym (talk_parts before (take taken octets)));
+  sent = one.sent ∙ ap (λ xs. xs ++ one.more) t.same;
+  serves = one.serves;
+  talks = talks;
 }
 
-pub going_more : {K : Type 0} (before hub : Hub K) (h : List Arrival) (number : ℕ) (octets rest old mid new : List ℕ) (size : ℕ) (g : Going before h number octets rest old mid) → 0 < length rest
-    → HeardFrame hub g.then_ number rest mid new size → Going hub h number octets (take (length rest - size) (drop size rest)) old new
-going_more before hub h number octets rest old mid new size g some f =
-    let frame = frame_of g.fuel number rest g.then_ some g.enough in
+-- a unit isn't built
+pub some_unbuilt : (h : List Arrival) (n : ℕ) (before octets old mid : List ℕ) (taken k : ℕ) (u : AnyUnit)
+    → Told (says (talk before) octets) taken k u old mid → ((rest : List Arrival → Option Went) → hear_unit h (event.Unit n k u) rest ≡ None) → hear_octets n (talk before) octets h ≡ None
+some_unbuilt h n before octets old mid taken k u t none =
+    subst (λ s. HeardAs s n (talk before) octets h) t.says_is (heard_as n (talk before) octets h)
+    ∙ none (λ more. hear_octets n (fold talk_octet (talk before) (take taken octets)) (drop taken octets) more)
+
+-- it stopped at the unit
+pub some_stopped : {K : Type 0} (hub : Hub K) (conn : Conn) (h : List Arrival) (n : ℕ) (before octets old mid new : List ℕ) (taken k : ℕ) (u : AnyUnit) (stop : Stop)
+    → Told (says (talk before) octets) taken k u old mid → UnitDone hub h (event.Unit n k u) mid new (Err stop) → SomeDone hub conn h n before octets old new (Err stop)
+some_stopped hub conn h n before octets old mid new taken k u Unbuilt t d = some_unbuilt h n before octets old mid taken k u t d
+some_stopped hub conn h n before octets old mid new taken k u NoMemory t d = tt
+some_stopped hub conn h n before octets old mid new taken k u (BadLine why) t d = absurd d
+
+-- the end was heard
+pub some_end : {K : Type 0} (hub : Hub K) (conn : Conn) (h : List Arrival) (n : ℕ) (before octets old new : List ℕ) (taken : ℕ) (closing : Closing)
+    → Ended (says (talk before) octets) (length octets) taken closing old new → Talks conn (before ++ take taken octets) → Serves hub (Hears (event.Lost n) ∷ h)
+    → HeardEnd hub conn h n before octets old new closing
+some_end hub conn h n before octets old new taken closing e talks serves = record {
+  goes = subst (λ s. HeardAs s n (talk before) octets h) e.says_is (heard_as n (talk before) octets h);
+  sent = e.sent;
+  serves = serves;
+  talks = subst (λ xs. Talks conn (before ++ xs)) (ap (λ m. take m octets) e.all_is ∙ take-length octets) talks;
+}
+
+-- nothing was heard
+pub some_none : {K : Type 0} (hub : Hub K) (conn : Conn) (h : List Arrival) (n : ℕ) (before octets old new : List ℕ) (taken : ℕ)
+    → Waited (says (talk before) octets) (length octets) taken old new → Talks conn (before ++ take taken octets) → Serves hub h → HeardSome hub conn h n before octets old new taken
+some_none hub conn h n before octets old new taken w talks serves =
+    let all : take taken octets ≡ octets = ap (λ m. take m octets) w.all_is ∙ take-length octets in
+    let none : drop taken octets ≡ [] = no_octets (drop taken octets) (omega (arith, length-drop taken octets, w.all_is)) in
     record {
-      sofar = g.sofar ++ f.more;
-      then_ = f.then_;
-      fuel = frame.0;
-      goes = g.goes ∙ ap (sent_before g.sofar) (frame.2 ∙ f.goes (λ s more. hear_piece frame.0 number (drop s rest) more))
-          ∙ sent_twice g.sofar f.more (hear_piece frame.0 number (drop size rest) f.then_)
-          ∙ ap (λ xs. sent_before (g.sofar ++ f.more) (hear_piece frame.0 number xs f.then_)) (sym (take_rest rest size));
-      enough = omega (arith, frame.1, f.low, ap length (take_rest rest size), length-drop size rest);
-      sent = f.sent ∙ ap (λ xs. xs ++ f.more) g.sent ∙ append_assoc old g.sofar f.more;
-      serves = f.serves;
+      more = [];
+      then_ = h;
+      goes = subst (λ s. HeardAs s n (talk before) octets h) w.says_is (heard_as n (talk before) octets h)
+          ∙ ap (λ t. hear_octets n t [] h) (ap (fold talk_octet (talk before)) (sym all) ∙ sym (talk_parts before (take taken octets)))
+          ∙ ap (λ xs. hear_octets n (talk (before ++ take taken octets)) xs h) (sym none)
+          ∙ sent_none (hear_octets n (talk (before ++ take taken octets)) (drop taken octets) h);
+      sent = w.same ∙ sym (append-nil old);
+      serves = serves;
+      talks = talks;
     }
 
--- a frame that isn't built
-pub going_stops : {K : Type 0} (before : Hub K) (h : List Arrival) (number : ℕ) (octets rest old mid : List ℕ) (g : Going before h number octets rest old mid) → 0 < length rest
-    → ((next : ℕ → List Arrival → Option Went) → hear_came number g.then_ (first_unit rest) next ≡ None) → hear_piece (length octets) number octets h ≡ None
-going_stops before h number octets rest old mid g some stops =
-    let frame = frame_of g.fuel number rest g.then_ some g.enough in
-    g.goes ∙ ap (sent_before g.sofar) (frame.2 ∙ stops (λ s more. hear_piece frame.0 number (drop s rest) more))
+-- ---- a whole piece
 
--- the end of a piece
-end_of : (fuel number : ℕ) (rest : List ℕ) (h : List Arrival) → rest ≡ [] → hear_piece fuel number rest h ≡ Some (record { sent = []; heard = Hears (event.Drain number) ∷ h })
-end_of fuel number [] h e = refl
-end_of fuel number (x ∷ xs) h e = absurd (omega (arith, ap length e))
+-- the octets so far were heard, and the rest follows
+pub record Going {K : Type 0} (hub : Hub K) (conn : Conn) (h : List Arrival) (n : ℕ) (before octets rest old new : List ℕ) : Type 0 where
+  pub sofar : List ℕ
+  pub then_ : List Arrival
+  pub front : List ℕ
+  pub parts : octets ≡ front ++ rest
+  pub goes : hear_octets n (talk before) octets h ≡ sent_before sofar (hear_octets n (talk (before ++ front)) rest then_)
+  pub sent : new ≡ old ++ sofar
+  pub serves : Serves hub then_
+  pub talks : Talks conn (before ++ front)
 
-pub going_ends : {K : Type 0} (before hub : Hub K) (h : List Arrival) (number : ℕ) (octets rest old new : List ℕ) (g : Going before h number octets rest old new) → rest ≡ []
-    → Serves hub (Hears (event.Drain number) ∷ g.then_) → HeardPiece hub h number octets old new
-going_ends before hub h number octets rest old new g empty s = record {
-  went = record { sent = g.sofar ++ []; heard = Hears (event.Drain number) ∷ g.then_ };
-  goes = g.goes ∙ ap (sent_before g.sofar) (end_of g.fuel number rest g.then_ empty);
-  sent = g.sent ∙ ap (λ xs. old ++ xs) (sym (append-nil g.sofar));
-  serves = s;
+pub going_start : {K : Type 0} (hub : Hub K) (conn : Conn) (h : List Arrival) (n : ℕ) (before octets old : List ℕ) → Serves hub h → Talks conn before → Going hub conn h n before octets octets old old
+going_start hub conn h n before octets old serves talks = record {
+  sofar = [];
+  then_ = h;
+  front = [];
+  parts = refl;
+  goes = sent_none (hear_octets n (talk before) octets h) ∙ ap (λ xs. sent_before [] (hear_octets n (talk xs) octets h)) (sym (append-nil before));
+  sent = sym (append-nil old);
+  serves = serves;
+  talks = subst (Talks conn) (sym (append-nil before)) talks;
 }
+
+pub going_more : {K : Type 0} (hub next : Hub K) (conn then_conn : Conn) (h : List Arrival) (n : ℕ) (before octets rest old mid new : List ℕ) (taken : ℕ)
+    (g : Going hub conn h n before octets rest old mid) → HeardSome next then_conn g.then_ n (before ++ g.front) rest mid new taken
+    → Going next then_conn h n before octets (drop taken rest) old new
+going_more hub next conn then_conn h n before octets rest old mid new taken g s =
+    let joined : (before ++ g.front) ++ take taken rest ≡ before ++ (g.front ++ take taken rest) = append_assoc before g.front (take taken rest) in
+    record {
+      sofar = g.sofar ++ s.more;
+      then_ = s.then_;
+      front = g.front ++ take taken rest;
+      parts = g.parts ∙ ap (λ xs. g.front ++ xs) (sym (take-append-drop taken rest)) ∙ sym (append_assoc g.front (take taken rest) (drop taken rest));
+      goes = g.goes ∙ ap (sent_before g.sofar) s.goes ∙ sent_twice g.sofar s.more (hear_octets n (talk ((before ++ g.front) ++ take taken rest)) (drop taken rest) s.then_)
+          ∙ ap (λ xs. sent_before (g.sofar ++ s.more) (hear_octets n (talk xs) (drop taken rest) s.then_)) joined;
+      sent = s.sent ∙ ap (λ xs. xs ++ s.more) g.sent ∙ append_assoc old g.sofar s.more;
+      serves = s.serves;
+      talks = subst (Talks then_conn) joined s.talks;
+    }
+
+-- an open connection hears its octets
+hears_open : (n : ℕ) (t : Talk) (octets : List ℕ) (h : List Arrival) → is_shut t ≡ false → hear_piece n t octets h ≡ hear_octets n t octets h
+hears_open n (Open c) octets h e = refl
+hears_open n Shut octets h e = absurd (cc e)
+
+pub going_ends : {K : Type 0} (hub next : Hub K) (conn : Conn) (h : List Arrival) (n : ℕ) (before octets rest old new : List ℕ) (g : Going hub conn h n before octets rest old new)
+    → is_shut (talk before) ≡ false → rest ≡ [] → Serves next (Hears (event.Drain n) ∷ g.then_) → HeardPiece next conn h n before octets old new None
+going_ends hub next conn h n before octets rest old new g open_ none serves =
+    let all : octets ≡ g.front = g.parts ∙ ap (λ xs. g.front ++ xs) none ∙ append-nil g.front in
+    record {
+      went = record { sent = g.sofar ++ []; heard = Hears (event.Drain n) ∷ g.then_; refused = None };
+      goes = hears_open n (talk before) octets h open_ ∙ g.goes ∙ ap (λ xs. sent_before g.sofar (hear_octets n (talk (before ++ g.front)) xs g.then_)) none;
+      refused_is = refl;
+      sent = g.sent ∙ ap (λ xs. old ++ xs) (sym (append-nil g.sofar));
+      serves = serves;
+      talks = subst (λ xs. Talks conn (before ++ xs)) (sym all) g.talks;
+    }
+
+pub going_closes : {K : Type 0} (hub next : Hub K) (conn then_conn : Conn) (h : List Arrival) (n : ℕ) (before octets rest old mid new : List ℕ) (closing : Closing) (g : Going hub conn h n before octets rest old mid)
+    → is_shut (talk before) ≡ false → HeardEnd next then_conn g.then_ n (before ++ g.front) rest mid new closing → HeardPiece next then_conn h n before octets old new (Some closing)
+going_closes hub next conn then_conn h n before octets rest old mid new closing g open_ e = record {
+  went = record { sent = g.sofar ++ close_octets closing.why; heard = Hears (event.Lost n) ∷ g.then_; refused = Some closing };
+  goes = hears_open n (talk before) octets h open_ ∙ g.goes ∙ ap (sent_before g.sofar) e.goes;
+  refused_is = refl;
+  sent = e.sent ∙ ap (λ xs. xs ++ close_octets closing.why) g.sent ∙ append_assoc old g.sofar (close_octets closing.why);
+  serves = e.serves;
+  talks = subst (Talks then_conn) (append_assoc before g.front rest ∙ ap (λ xs. before ++ xs) (sym g.parts)) e.talks;
+}
+
+-- nothing is left
+pub tested_empty : (xs : List ℕ) → true ≡ eqb (length xs) 0 → xs ≡ []
+tested_empty xs e = no_octets xs (eqb-true (length xs) 0 (sym e))
+
+-- it stopped on the way
+pub going_stopped : {K : Type 0} (hub next : Hub K) (conn then_conn : Conn) (h : List Arrival) (n : ℕ) (before octets rest old mid new : List ℕ) (stop : Stop) (g : Going hub conn h n before octets rest old mid)
+    → is_shut (talk before) ≡ false → SomeDone next then_conn g.then_ n (before ++ g.front) rest mid new (Err stop) → PieceDone next then_conn h n before octets old new (Err stop)
+going_stopped hub next conn then_conn h n before octets rest old mid new Unbuilt g open_ d = hears_open n (talk before) octets h open_ ∙ g.goes ∙ ap (sent_before g.sofar) d
+going_stopped hub next conn then_conn h n before octets rest old mid new NoMemory g open_ d = tt
+going_stopped hub next conn then_conn h n before octets rest old mid new (BadLine why) g open_ d = absurd d
+
+shut_stays : (xs : List ℕ) → fold talk_octet Shut xs ≡ Shut
+shut_stays [] = refl
+shut_stays (x ∷ xs) = shut_stays xs
+
+-- a Closed connection stays so
+stays_shut : (s : State) (before more : List ℕ) → talk before ≡ Shut → TalksAs s before → TalksAs s (before ++ more)
+stays_shut (state.Open a) before more is t = let e : Shut ≡ Open (cut (λ place. 65535) 0 before) = sym is ∙ t.0 in absurd (cc e)
+stays_shut state.Closed before more is t = talk_parts before more ∙ ap (λ x. fold talk_octet x more) is ∙ shut_stays more
+
+-- and hears nothing
+pub going_shut : {K : Type 0} (hub : Hub K) (conn : Conn) (h : List Arrival) (n : ℕ) (before octets old : List ℕ) → is_shut (talk before) ≡ true → Serves hub h → Talks conn before
+    → HeardPiece hub conn h n before octets old old None
+going_shut hub conn h n before octets old shut serves talks =
+    let is : talk before ≡ Shut = of_shut (talk before) shut in
+    record {
+      went = record { sent = []; heard = h; refused = None };
+      goes = ap (λ t. hear_piece n t octets h) is;
+      refused_is = refl;
+      sent = sym (append-nil old);
+      serves = serves;
+      talks = stays_shut conn.state before octets is talks;
+    }
+  where
+    of_shut : (t : Talk) → is_shut t ≡ true → t ≡ Shut
+    of_shut (Open c) e = absurd (cc e)
+    of_shut Shut e = refl

@@ -1,4 +1,5 @@
 pub mod Hearing
 pub mod Line
+pub mod Linked
 pub mod Replay
 pub mod Tool

@@ -1,12 +1,14 @@
 -- What the lines of a trace are to the broker, and what is written for each.
-use Rattle.std.specs.Prelude.{◌≡◌, ℕ, ◌==◌, Bool, is_some, if◌then◌else◌, map, List, [], ◌∷◌, Option, None, Some, Result, Ok, Err}
-use Rattle.std.specs.Map.{lookup}
+use Rattle.std.specs.Prelude.{◌≡◌, ℕ, Bool, is_some, if◌then◌else◌, map, List, [], ◌∷◌, ◌++◌, Option, None, Some, Result, Ok, Err}
+use Rattle.broker_engine.specs.declared.conn.Closing.{Closing}
 use Rattle.history_model.specs.declared.names.ConnName.{ConnName}
 use Rattle.history_model.specs.declared.trace.TraceEvent.{TraceEvent}
 use Rattle.history_model.specs.declared.trace.TraceEvent.TheVariants as trace
 use Rattle.history_model.specs.Standing.{world}
 use Rattle.history_model.specs.State.{state}
-use Rattle.broker_engine.specs.Trace.{Past, Went, past_event, hear_bytes, to_line}
+use Rattle.broker_engine.specs.Feeds.{Talks}
+use Rattle.broker_engine.specs.Trace.{Past, Link, Went, past_event, link_of, hear_link, to_line, refused_line}
+use Rattle.history_model.specs.Pairs.{Paired}
 use Rattle.history_model.specs.Report.{closing_lines}
 use Rattle.hub_core.specs.Hub.{Serves, keeper_of as hub_keeper}
 use Rattle.keeper_core.specs.declared.keeper.OpenFault.{OpenFault}
@@ -18,24 +20,29 @@ use Rattle.line_runs.specs.declared.tool.TraceWhy.TheVariants.{NoSuchConnection,
 use Rattle.trace_tool.specs.declared.line.Parsed.{Parsed}
 use Rattle.trace_tool.specs.declared.line.Parsed.TheVariants.{Skipped, Event, Bad}
 use Rattle.trace_tool.specs.declared.replay.Replay.{Replay}
+use Rattle.trace_tool.specs.declared.wire.Wire.{Wire}
 use Rattle.trace_tool.specs.Line.{parsed}
 
 -- a connection of the trace is there
 abbrev pub known : Past → ℕ → Bool
-known p connection = is_some (lookup (λ n. n == connection) p.connections)
+known p connection = is_some (link_of p connection)
+
+-- the lines of what was sent, and of the connection's end
+abbrev pub went_lines : ℕ → List ℕ → Option Closing → List ℕ
+went_lines connection sent refused = to_line connection sent ++ refused_line connection refused
 
 -- what is written for an outcome
 abbrev pub went_step : ℕ → Option Went → LineStep
 went_step connection None = Lacks
-went_step connection (Some w) = Goes (to_line connection w.sent)
+went_step connection (Some w) = Goes (went_lines connection w.sent w.refused)
 
 -- what an event comes to
 abbrev pub event_step : Past → TraceEvent → LineStep
 event_step p (trace.Ready c) = if known p c then Breaks InUse else Goes []
 event_step p (trace.Open c) = if known p c then Breaks InUse else Lacks
-event_step p (trace.Bytes c octets) = if known p c then went_step c (hear_bytes (lookup (λ n. n == c) p.connections) octets p.arrivals) else Breaks NoSuchConnection
-event_step p (trace.Lose c) = if known p c then Lacks else Breaks NoSuchConnection
-event_step p (trace.Quiet c) = if known p c then Lacks else Breaks NoSuchConnection
+event_step p (trace.Bytes c octets) = if known p c then went_step c (hear_link (link_of p c) octets p.arrivals) else Breaks NoSuchConnection
+event_step p (trace.Lose c) = if known p c then Goes [] else Breaks NoSuchConnection
+event_step p (trace.Quiet c) = if known p c then Goes [] else Breaks NoSuchConnection
 event_step p (trace.Tick now) = Lacks
 event_step p trace.Restart = Lacks
 
@@ -60,17 +67,22 @@ past_lines [] = record { connections = []; arrivals = [] }
 past_lines (line ∷ lines) = past_parsed (past_lines lines) (parsed line)
 
 -- a connection's number in the hub, and in the trace
-abbrev pub conn_name : (ℕ × ℕ) → ConnName
-conn_name row = record { number = row.1; name = row.0 }
+abbrev pub conn_name : (ℕ × Link) → ConnName
+conn_name row = record { number = row.1.number; name = row.0 }
 
 -- the closing lines
 abbrev pub closing_of : Past → List ℕ
 closing_of p = closing_lines (map conn_name p.connections) (world p.arrivals) (state p.arrivals)
 
+-- a connection of the code stands for its number and its peer's octets
+pub record IsLink (wire : Wire) (link : Link) : Type 0 where
+  pub number_is : wire.number ≡ link.number
+  pub talks : Talks wire.conn link.heard
+
 -- the broker's hub heard what came, and it has the connections
 pub record StandsFor {K : Type 0} (now : Replay K) (p : Past) : Type 0 where
   pub serves : Serves now.hub p.arrivals
-  pub same : now.connections.entries ≡ p.connections
+  pub links_are : Paired IsLink now.connections.entries p.connections
 
 -- its keeper
 abbrev pub keeper_of : {K : Type 0} → Replay K → K

@@ -6,6 +6,7 @@ mod line;
 mod replay;
 mod status;
 mod tool;
+mod wire;
 
 pub use replay::{Replay, run_replay};
 pub use status::Status;

@@ -1,16 +1,25 @@
 //! `replay`: the broker over the lines of a trace.
-ghost use Rattle.std.specs.Prelude.{◌≡◌, ◌==◌, ◌++◌, ℕ, List, [], Bool, if◌then◌else◌, codes, map, IfOk, IfSome, Some};
+ghost use Rattle.std.specs.Prelude.{◌≡◌, ◌==◌, ◌++◌, ℕ, List, [], Bool, if◌then◌else◌, map, is_some, IfOk, IfSome, OnOk, Some};
 ghost use Rattle.std.specs.Io.KnownBytes.{IsAtEnd};
-ghost use Rattle.std.specs.Fmt.{decimal};
-ghost use Rattle.std.specs.Map.{lookup};
 ghost use Rattle.history_model.specs.declared.trace.TraceEvent.TheVariants as trace;
-ghost use Rattle.broker_engine.specs.Trace.{Past, to_line};
+ghost use Rattle.history_model.specs.Arrivals.{Arrival};
+ghost use Rattle.history_model.specs.Pairs.{Paired};
+ghost use Rattle.broker_engine.specs.Trace.{Past, Link};
+ghost use Rattle.hub_core.specs.Hub.{Serves, keeper_of as hub_keeper};
 ghost use Rattle.line_runs.specs.Run.{Reports, ReadHasCause, WriteHasCause};
-ghost use Rattle.trace_tool.specs.Replay.{StandsFor, Happens, conn_name, line_step, past_lines, closing_of, known, keeper_of};
+ghost use Rattle.trace_tool.specs.Replay.{IsLink, StandsFor, Happens, conn_name, line_step, past_lines, closing_of, known, keeper_of};
+ghost use Rattle.std.specs.BTreeMap.{insert_entry};
+ghost use Rattle.std.specs.Map.{lookup, remove_entry};
+ghost use Rattle.std.specs.Option.{option_map};
+ghost use Rattle.std.specs.Ordering.{nat_cmp};
+ghost use Rattle.broker_engine.specs.Feeds.{Talks};
+ghost use Rattle.trace_tool.specs.Linked.{Linked, Drained, wire_name};
 
-use crate::hearing::{hear_piece, join};
+use crate::hearing::{drain, hear_piece, join, lose};
 use crate::line::{Parsed, parse};
+use crate::wire::{Wire, lines_of};
 use amqp_values::{NoMemory, Octets};
+use broker_engine::{Closing, Conn};
 use history_model::{ConnName, TraceEvent};
 use hub_core::Hub;
 use keeper_core::{Keeper, OpenFault};
@@ -25,61 +34,111 @@ use std::collections::BTreeMap;
 #[derive(Drop)]
 pub struct Replay<K> {
     hub: Hub<K>,
-    /// The trace's connections, with their numbers in the hub.
-    connections: BTreeMap<u32, u64>,
+    /// The trace's connections.
+    connections: BTreeMap<u32, Wire>,
 }
 
-/// The hub's number of a connection.
-fn number_in(connections: &BTreeMap<u32, u64>, connection: u32) -> Option<u64>
-    ensures { result ≡ lookup (λ n. n == connection) connections.now.entries }
+/// Whether the trace has such a connection.
+fn has(connections: &BTreeMap<u32, Wire>, connection: u32) -> bool
+    ensures { (links : List (ℕ × Link)) → Paired IsLink connections.now.entries links → result ≡ is_some (lookup (λ n. n == connection) links) }
 {
-    connections.get(&connection).copied()
+    connections.contains_key(&connection)
 }
 
 /// The connections' numbers in the hub, and in the trace.
-fn names_of(alloc: Global, connections: &BTreeMap<u32, u64>) -> Result<Vec<ConnName>, NoMemory>
-    ensures { IfOk result (λ names. names.items ≡ map conn_name connections.now.entries) }
+fn names_of(alloc: Global, connections: &BTreeMap<u32, Wire>) -> Result<Vec<ConnName>, NoMemory>
+    ensures { IfOk result (λ names. names.items ≡ map wire_name connections.now.entries) }
 {
     let mut names = Vec::new(alloc);
-    for (name, number) in connections.iter() {
+    for (name, wire) in connections.iter() {
         names.push(ConnName {
-            number: *number,
+            number: wire.number,
             name: *name,
         })?;
     }
     Ok(names)
 }
 
-/// The line of octets in hex.
-fn line_of_hex(alloc: Global, connection: u32, sent: &str) -> Result<Octets, NoMemory>
-    ensures { IfOk result (λ line. line ≡ codes "to " ++ decimal connection ++ codes " " ++ sent.now ++ codes "\n") }
+/// Adds a connection that heard nothing yet.
+fn add(
+    connections: &mut BTreeMap<u32, Wire>,
+    connection: u32,
+    number: u64,
+    conn: Conn,
+) -> Result<(), NoMemory>
+    ensures { (links : List (ℕ × Link)) → Paired IsLink connections.old.entries links → Talks conn []
+        → OnOk result (Paired IsLink connections.new.entries (insert_entry nat_cmp links connection (record { number = number; heard = [] }))) }
 {
-    let line = format!(in alloc; "to {connection} {sent}\n")?;
-    Ok(Octets::from_vec(line.into_bytes()))
+    connections.insert(connection, Wire { number, conn })?;
+    Ok(())
 }
 
-/// The line of what was sent, if anything was.
-#[tactic(auto, unfolding(broker_engine::specs::Trace::to_line))]
-fn line_of(alloc: Global, connection: u32, sent: &[u8]) -> Result<Octets, NoMemory>
-    ensures { IfOk result (λ line. line ≡ to_line connection sent.now) }
+/// Takes a connection away, and gives its number in the hub.
+fn take(connections: &mut BTreeMap<u32, Wire>, connection: u32) -> Option<u64>
+    ensures number { (links : List (ℕ × Link)) → Paired IsLink connections.old.entries links
+        → result ≡ option_map (λ link. link.number) (lookup (λ n. n == connection) links) }
+    ensures gone { (links : List (ℕ × Link)) → Paired IsLink connections.old.entries links
+        → Paired IsLink connections.new.entries (remove_entry (λ n. n == connection) links) }
 {
-    match sent {
-        [] => Ok(Octets::new(alloc)),
-        [_, ..] => {
-            let text = hex::encode(alloc, sent)?;
-            line_of_hex(alloc, connection, text.as_str())
+    match connections.remove(&connection) {
+        Some(wire) => {
+            let Wire { number, conn: _ } = wire;
+            Some(number)
         }
+        None => None,
     }
 }
 
-/// Why an event that isn't built is not taken.
-fn not_taken(is_in_order: bool, why: TraceWhy) -> Stop
-    ensures { result ≡ (if is_in_order then Stop.Unbuilt else Stop.BadLine why) }
+/// Hears a piece on a connection, if it is there; gives where the piece closes it.
+fn hear_on<K: Keeper>(
+    hub: &mut Hub<K>,
+    connections: &mut BTreeMap<u32, Wire>,
+    connection: u32,
+    octets: &[u8],
+    sent: &mut Vec<u8>,
+) -> Result<Option<Closing>, Stop>
+    ensures heard { (h : List Arrival) (links : List (ℕ × Link)) → Serves hub.old h → Paired IsLink connections.old.entries links
+        → Linked hub.new connections.new.entries h links connection octets.now sent.old.items sent.new.items result }
+    ensures keeper { hub_keeper hub.new ≡ hub_keeper hub.old }
 {
-    if is_in_order {
-        return Stop::Unbuilt;
+    match connections.get_mut(&connection) {
+        Some(wire) => hear_piece(hub, wire.number, &mut wire.conn, octets, sent),
+        None => Err(Stop::BadLine(TraceWhy::NoSuchConnection)),
     }
-    Stop::BadLine(why)
+}
+
+/// Lets deliveries go out on a connection, if it is there; on a Closed one none do.
+fn drain_on<K: Keeper>(
+    hub: &mut Hub<K>,
+    connections: &BTreeMap<u32, Wire>,
+    connection: u32,
+) -> Result<(), Stop>
+    ensures drained { (h : List Arrival) (links : List (ℕ × Link)) → Serves hub.old h → Paired IsLink connections.now.entries links
+        → Drained hub.new h (lookup (λ n. n == connection) links) result }
+    ensures keeper { hub_keeper hub.new ≡ hub_keeper hub.old }
+{
+    match connections.get(&connection) {
+        Some(wire) => {
+            if wire.conn.is_closed() {
+                return Ok(());
+            }
+            match drain(hub, wire.number) {
+                Ok(()) => Ok(()),
+                Err(NoMemory) => Err(Stop::NoMemory),
+            }
+        }
+        None => Err(Stop::BadLine(TraceWhy::NoSuchConnection)),
+    }
+}
+
+/// Why a connection with its negotiation to come is not taken: its number is in use, or it isn't built yet.
+fn open(in_use: bool) -> Stop
+    ensures { result ≡ (if in_use then Stop.BadLine TraceWhy.InUse else Stop.Unbuilt) }
+{
+    if in_use {
+        return Stop::BadLine(TraceWhy::InUse);
+    }
+    Stop::Unbuilt
 }
 
 impl<K: Keeper> Replay<K> {
@@ -109,28 +168,22 @@ impl<K: Keeper> Replay<K> {
         hub.close()
     }
 
-    /// Whether the trace has such a connection.
-    fn has(&self, connection: u32) -> bool
-        ensures { (p : Past) → StandsFor self.now p → result ≡ known p connection }
-    {
-        number_in(&self.connections, connection).is_some()
-    }
-
     /// A connection whose negotiation is done joins.
     fn ready(&mut self, alloc: Global, connection: u32) -> Result<Octets, Stop>
         ensures happens { (p : Past) → StandsFor self.old p → Happens self.new p (trace.Ready connection) result }
         ensures keeper { keeper_of self.new ≡ keeper_of self.old }
     {
-        if self.has(connection) {
+        if has(&self.connections, connection) {
             return Err(Stop::BadLine(TraceWhy::InUse));
         }
+        let Ok(conn) = Conn::ready(alloc) else {
+            return Err(Stop::NoMemory);
+        };
         match join(&mut self.hub) {
-            Ok(Some(number)) => {
-                if self.connections.insert(connection, number).is_err() {
-                    return Err(Stop::NoMemory);
-                }
-                Ok(Octets::new(alloc))
-            }
+            Ok(Some(number)) => match add(&mut self.connections, connection, number, conn) {
+                Ok(()) => Ok(Octets::new(alloc)),
+                Err(NoMemory) => Err(Stop::NoMemory),
+            },
             Ok(None) => Ok(Octets::new(alloc)),
             Err(NoMemory) => Err(Stop::NoMemory),
         }
@@ -141,15 +194,43 @@ impl<K: Keeper> Replay<K> {
         ensures happens { (p : Past) → StandsFor self.old p → Happens self.new p (trace.Bytes connection octets.now) result }
         ensures keeper { keeper_of self.new ≡ keeper_of self.old }
     {
-        let Some(number) = number_in(&self.connections, connection) else {
-            return Err(Stop::BadLine(TraceWhy::NoSuchConnection));
-        };
         let mut sent = Vec::new(alloc);
-        match hear_piece(alloc, &mut self.hub, number, octets.as_slice(), &mut sent) {
-            Ok(()) => match line_of(alloc, connection, sent.as_slice()) {
-                Ok(line) => Ok(line),
+        match hear_on(
+            &mut self.hub,
+            &mut self.connections,
+            connection,
+            octets.as_slice(),
+            &mut sent,
+        ) {
+            Ok(refused) => match lines_of(alloc, connection, sent.as_slice(), refused) {
+                Ok(lines) => Ok(lines),
                 Err(NoMemory) => Err(Stop::NoMemory),
             },
+            Err(stop) => Err(stop),
+        }
+    }
+
+    /// A connection is lost.
+    fn lose(&mut self, alloc: Global, connection: u32) -> Result<Octets, Stop>
+        ensures happens { (p : Past) → StandsFor self.old p → Happens self.new p (trace.Lose connection) result }
+        ensures keeper { keeper_of self.new ≡ keeper_of self.old }
+    {
+        match take(&mut self.connections, connection) {
+            Some(number) => match lose(&mut self.hub, number) {
+                Ok(()) => Ok(Octets::new(alloc)),
+                Err(NoMemory) => Err(Stop::NoMemory),
+            },
+            None => Err(Stop::BadLine(TraceWhy::NoSuchConnection)),
+        }
+    }
+
+    /// Deliveries may go out on a connection.
+    fn quiet(&mut self, alloc: Global, connection: u32) -> Result<Octets, Stop>
+        ensures happens { (p : Past) → StandsFor self.old p → Happens self.new p (trace.Quiet connection) result }
+        ensures keeper { keeper_of self.new ≡ keeper_of self.old }
+    {
+        match drain_on(&mut self.hub, &self.connections, connection) {
+            Ok(()) => Ok(Octets::new(alloc)),
             Err(stop) => Err(stop),
         }
     }
@@ -162,13 +243,9 @@ impl<K: Keeper> Replay<K> {
         match event {
             TraceEvent::Ready { connection } => self.ready(alloc, *connection),
             TraceEvent::Bytes { connection, octets } => self.bytes(alloc, *connection, octets),
-            TraceEvent::Open { connection } => Err(not_taken(
-                !self.has(*connection),
-                TraceWhy::InUse,
-            )),
-            TraceEvent::Lose { connection } | TraceEvent::Quiet { connection } => {
-                Err(not_taken(self.has(*connection), TraceWhy::NoSuchConnection))
-            }
+            TraceEvent::Open { connection } => { Err(open(has(&self.connections, *connection))) }
+            TraceEvent::Lose { connection } => self.lose(alloc, *connection),
+            TraceEvent::Quiet { connection } => self.quiet(alloc, *connection),
             TraceEvent::Tick { now: _ } | TraceEvent::Restart => Err(Stop::Unbuilt),
         }
     }

@@ -6,7 +6,7 @@ use Rattle.history_model.specs.Arrivals.{Hears}
 use Rattle.history_model.specs.Standing.{world}
 use Rattle.history_model.specs.State.{state, covered}
 use Rattle.broker_engine.specs.Trace.{sent_before}
-use Rattle.broker_engine.specs.Units.{out_octets}
+use Rattle.broker_engine.specs.Wire.{out_octets}
 use Rattle.trace_tool.proofs.hearing.hear_unit.Goals as goal
 
 pub returns-in-Ok-written-clause-heard : goal.returns-in-Ok-written-clause-heard

@@ -1,20 +1,20 @@
--- The piece is heard, and its line is written.
-use Rattle.std.proofs.Common.{◌==◌, Err, ◌∙◌, ap, subst}
-use Rattle.std.specs.Map.{lookup}
-use Rattle.broker_engine.specs.Trace.{to_line}
-use Rattle.trace_tool.specs.Hearing.{HeardPiece, PieceDone}
-use Rattle.trace_tool.proofs.Pieced.{bytes_stop, bytes_done}
+-- The piece is heard on its connection, and its lines are written.
+use Rattle.std.proofs.Common.{Err, ◌∙◌, ap, subst}
+use Rattle.trace_tool.specs.Linked.{Linked, LinkHeard}
+use Rattle.trace_tool.specs.Replay.{went_lines}
+use Rattle.trace_tool.proofs.Linking.{bytes_came, bytes_stopped}
 use Rattle.trace_tool.proofs.replay.Replay.bytes.Goals as goal
 
-pub returns-in-Ok-line_of-clause-happens : goal.returns-in-Ok-line_of-clause-happens
-returns-in-Ok-line_of-clause-happens g c = λ p s.
-    bytes_done (record { hub = c.hear_piece.new.hub; connections = c.args.self.now.connections }) p c.args.connection c.in-Some.number c.args.octets.now c.in-Ok-line_of.line
-    c.new-sent.result.items c.hear_piece.new.sent.items (c.in-Some.ensures ∙ ap (λ es. lookup (λ n. n == c.args.connection) es) s.same) s.same c.new-sent.ensures.items
-    (subst (λ xs. HeardPiece c.hear_piece.new.hub p.arrivals c.in-Some.number xs c.new-sent.result.items c.hear_piece.new.sent.items) c.as_slice.ensures (c.in-Ok.ensures.heard p.arrivals s.serves))
-    (c.in-Ok-line_of.ensures ∙ ap (λ xs. to_line c.args.connection xs) c.as_slice-in-Ok.ensures.value)
+pub returns-in-Ok-lines_of-clause-happens : goal.returns-in-Ok-lines_of-clause-happens
+returns-in-Ok-lines_of-clause-happens g c = λ p s.
+    bytes_came (record { hub = c.hear_on.new.hub; connections = c.hear_on.new.connections }) p c.args.connection c.args.octets.now c.in-Ok-lines_of.lines
+    c.new-sent.result.items c.hear_on.new.sent.items c.in-Ok.refused c.new-sent.ensures.items
+    (subst (λ xs. LinkHeard c.hear_on.new.hub c.hear_on.new.connections.entries p.arrivals p.connections c.args.connection xs c.new-sent.result.items c.hear_on.new.sent.items c.in-Ok.refused) c.as_slice.ensures
+    (c.in-Ok.ensures.heard p.arrivals p.connections s.serves s.links_are))
+    (c.in-Ok-lines_of.ensures ∙ ap (λ xs. went_lines c.args.connection xs c.in-Ok.refused) c.as_slice-in-Ok.ensures.value)
 
 pub returns-clause-happens : goal.returns-clause-happens
 returns-clause-happens g c = λ p s.
-    bytes_stop (record { hub = c.hear_piece.new.hub; connections = c.args.self.now.connections }) c.hear_piece.new.hub p c.args.connection c.in-Some.number c.args.octets.now c.new-sent.result.items c.hear_piece.new.sent.items c.in-Err.stop
-    (c.in-Some.ensures ∙ ap (λ es. lookup (λ n. n == c.args.connection) es) s.same)
-    (subst (λ xs. PieceDone c.hear_piece.new.hub p.arrivals c.in-Some.number xs c.new-sent.result.items c.hear_piece.new.sent.items (Err c.in-Err.stop)) c.as_slice.ensures (c.in-Err.ensures.heard p.arrivals s.serves))
+    bytes_stopped (record { hub = c.hear_on.new.hub; connections = c.hear_on.new.connections }) c.hear_on.new.hub c.hear_on.new.connections.entries p c.args.connection c.args.octets.now c.new-sent.result.items c.hear_on.new.sent.items c.in-Err.stop
+    (subst (λ xs. Linked c.hear_on.new.hub c.hear_on.new.connections.entries p.arrivals p.connections c.args.connection xs c.new-sent.result.items c.hear_on.new.sent.items (Err c.in-Err.stop)) c.as_slice.ensures
+    (c.in-Err.ensures.heard p.arrivals p.connections s.serves s.links_are))

@@ -1,0 +1,17 @@
+-- The lane's mark is noted, and so taken back.
+use Rattle.std.proofs.Common.{◌∙◌, ap, ◌<◌, length, set, arith}
+use Rattle.amqp_frames.specs.declared.touched.Touch.{Touch}
+use Rattle.amqp_frames.specs.Lane.{restored}
+use Rattle.amqp_frames.specs.Touched.{lane_in, undone}
+use Rattle.amqp_frames.proofs.Touching.{changed_back, mark_back, found}
+use Rattle.amqp_frames.proofs.touched.begin.Goals as goal
+
+pub returns-clause-undone : goal.returns-clause-undone
+returns-clause-undone c = λ i.
+    let x = c.index_mut-lane.result.now in
+    let lanes = c.make_lanes.new.lanes.items in
+    let there : c.lane_number-number.result < length lanes = omega (arith, c.in_ok-make_lanes.ensures.there) in
+    let t : Touch = record { lane = c.lane_number-number.result; kind = c.args.header.kind; len = c.len.result; mark = x.mark } in
+    ap (λ l. undone l (lane_in (set lanes t.lane (record x { mark = c.with-lane.result }))) i) c.in_ok-push.ensures.items
+    ∙ changed_back c.args.log.now.items lanes t (record x { mark = c.with-lane.result }) (lane_in c.args.lanes.now.items) there c.in_ok-make_lanes.ensures.same
+    (ap (λ n. restored t.kind n t.mark (record x { mark = c.with-lane.result })) c.len.ensures ∙ mark_back t.kind x c.with-lane.result ∙ found lanes t.lane x there c.index_mut-lane.ensures.value) i
