@@ -22,7 +22,7 @@ use Rattle.amqp_frames.proofs.Octets.{header_same}
 pub number_is : (c t : ℕ) (h : FrameHeader) → t ≤ 1 → h.track ≤ 1 → eqb (2 * c + t) (2 * h.channel + h.track) ≡ (eqb h.channel c && eqb h.track t)
 number_is c t h low high = grind (arith, nat_tests)
 
-track_low : (kind : ℕ) → track kind ≤ 1
+pub track_low : (kind : ℕ) → track kind ≤ 1
 track_low kind = elim (eqb kind 0) as (λ b. cond b 0 1 ≤ 1) [ true ↦ omega arith | false ↦ omega arith ]
 
 -- ---- a frame ends
@@ -159,6 +159,26 @@ or_else_parts : (a b : Option Why) → or_else a b ≡ None → (a ≡ None) × 
 or_else_parts None b e = (refl, e)
 or_else_parts (Some why) b e = absurd (cc e)
 
+-- a payload that fits beside those of its assembly and of all open ones
+sized : (b : Bool) (payload assembled open_octets : ℕ) → cond b (size_fault payload assembled open_octets) (Some BadFlags) ≡ None → (assembled + payload ≤ 16777216) × (open_octets + payload ≤ 33554432)
+sized true payload assembled open_octets e =
+    let x = none_parts (ltb 16777216 (assembled + payload)) TooLarge _ e in
+    let y = none_parts (ltb 33554432 (open_octets + payload)) TooMuchOpen _ x.1 in
+    (ltb-false 16777216 (assembled + payload) x.0, ltb-false 33554432 (open_octets + payload) y.0)
+sized false payload assembled open_octets e = absurd (cc e)
+
+-- what a frame that passed says
+pub record Passed (at : ℕ) (h : FrameHeader) (frames : List Frame) : Type 0 where
+  pub form : Formed at h
+  pub assembly_fits : payloads_size (open_on h.channel h.track frames) + payload_of_header h ≤ 16777216
+  pub open_fits : open_size frames + payload_of_header h ≤ 33554432
+
+pub fits_of : (max at : ℕ) (h : FrameHeader) (frames : List Frame) → frame_fault max at h frames ≡ None → Passed at h frames
+fits_of max at h frames none =
+    let parts = or_else_parts (form_fault max at h) _ none in
+    let fits = sized (in_place (newest (open_on h.channel h.track frames)) h) (payload_of_header h) (payloads_size (open_on h.channel h.track frames)) (open_size frames) parts.1 in
+    record { form = formed max at h parts.0; assembly_fits = fits.0; open_fits = fits.1 }
+
 -- the code's test is that of the definitions
 pub fault_is : (a : Assembler) (limits : ℕ → ℕ) (first : ℕ) (frames : List Frame) (rest : List ℕ) (h : FrameHeader) → Between a limits first frames rest
     → fault_beside a.max_frame a.front.at h (lane_in a.lanes.items (lane_number h)).mark.last (lane_in a.lanes.items (lane_number h)).mark.size a.front.unfinished
@@ -227,10 +247,9 @@ pub frame_begins : (a b : Assembler) (limits : ℕ → ℕ) (first : ℕ) (frame
     → Within b limits first frames rest
 frame_begins a b limits first frames rest h s twelve is none small fault max partial at header need unfinished lanes =
     let place = place_after first frames in
-    let parts = or_else_parts (form_fault (limits place) place h) _ (sym none) in
-    let form = formed (limits place) place h parts.0 in
+    let passed = fits_of (limits place) place h frames (sym none) in
+    let form = passed.form in
     let low : h.track ≤ 1 = subst (λ n. n ≤ 1) (sym form.track_is) (track_low h.kind) in
-    let fits = sized (in_place (newest (open_on h.channel h.track frames)) h) (payload_of_header h) (payloads_size (open_on h.channel h.track frames)) (open_size frames) parts.1 in
     let f = frame_of b.front.at rest in
     let empty : f.payload ≡ [] = none_left rest twelve in
     let head_is : b.front.header ≡ header_at rest = header ∙ is in
@@ -251,8 +270,8 @@ frame_begins a b limits first frames rest h s twelve is none small fault max par
           ∙ ap (λ (l : Lane). cond (is_on c t (header_at rest)) (record l { mark = marked l.mark h a.front.at }) l) (s.lanes_are c t le)
           ∙ ap (λ (g : FrameHeader). cond (is_on c t (header_at rest)) (record (lane_of t (open_on c t frames)) { mark = marked (mark_of (open_on c t frames)) g a.front.at }) (lane_of t (open_on c t frames))) is
           ∙ ap (λ n. cond (is_on c t (header_at rest)) (record (lane_of t (open_on c t frames)) { mark = marked (mark_of (open_on c t frames)) (header_at rest) n }) (lane_of t (open_on c t frames))) (sym at)
-          ∙ begun_at frames f c t empty (subst (λ (g : FrameHeader). payloads_size (open_on g.channel g.track frames) + payload_of_header g ≤ 16777216) is fits.0);
-      unfinished_is = omega (arith, unfinished, fits.1, s.unfinished_is, ap payload_of_header header);
+          ∙ begun_at frames f c t empty (subst (λ (g : FrameHeader). payloads_size (open_on g.channel g.track frames) + payload_of_header g ≤ 16777216) is passed.assembly_fits);
+      unfinished_is = omega (arith, unfinished, passed.open_fits, s.unfinished_is, ap payload_of_header header);
       limit_is = λ p lt. s.limit_is p (omega (arith, lt)) ∙ sym max;
     }
   where
@@ -262,13 +281,6 @@ frame_begins a b limits first frames rest h s twelve is none small fault max par
 
     none_left : (xs : List ℕ) → length xs ≡ 12 → drop 12 xs ≡ []
     none_left xs e = no_length (drop 12 xs) (omega (arith, length-drop 12 xs, e))
-
-    sized : (b' : Bool) (payload assembled open_octets : ℕ) → cond b' (size_fault payload assembled open_octets) (Some BadFlags) ≡ None → (assembled + payload ≤ 16777216) × (open_octets + payload ≤ 33554432)
-    sized true payload assembled open_octets e =
-        let x = none_parts (ltb 16777216 (assembled + payload)) TooLarge _ e in
-        let y = none_parts (ltb 33554432 (open_octets + payload)) TooMuchOpen _ x.1 in
-        (ltb-false 16777216 (assembled + payload) x.0, ltb-false 33554432 (open_octets + payload) y.0)
-    sized false payload assembled open_octets e = absurd (cc e)
 
 -- ---- a payload goes on
 

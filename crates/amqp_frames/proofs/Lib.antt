@@ -3,3 +3,5 @@ pub mod Touching
 pub mod Octets
 pub mod Lanes
 pub mod Taking
+pub mod Keeping
+pub mod Back

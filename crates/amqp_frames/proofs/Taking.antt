@@ -14,6 +14,7 @@ use Rattle.amqp_frames.specs.declared.done.FrameFault.{FrameFault}
 use Rattle.amqp_frames.specs.declared.header.FrameHeader.{FrameHeader}
 use Rattle.amqp_frames.specs.Cut.{Frame, Cutting, Cuts, Faults, header_in, header_at, frame_of, place_after, grown, cut_octet, cut_on, cut, ended_by, whole, is_quiet, all_quiet, open_size, payload_of_header}
 use Rattle.amqp_frames.specs.Frames.{track}
+use Rattle.amqp_frames.specs.Kept.{kept}
 use Rattle.amqp_frames.specs.Lane.{lane_of}
 use Rattle.amqp_frames.specs.Touched.{lane_in}
 use Rattle.amqp_frames.specs.Stands.{Between, Within, open_with, StandsAs, Stands, After, Took, Run, KeepsLog, LogKept, TakesPiece, RefusesPiece, Refused}
@@ -107,14 +108,14 @@ pub step_octet : (a b : Assembler) (limits : ℕ → ℕ) (first : ℕ) (cutting
     → ((frames : List Frame) (rest : List ℕ) → Between a limits first frames rest → After b limits first (cut_octet limits first (Cuts frames rest) o) r) → Took b limits first cutting (o ∷ []) r
 step_octet a b limits first (Cuts frames rest) o r (inl s) none need f = took_one b limits first (Cuts frames rest) o r (f frames rest s)
 step_octet a b limits first (Cuts frames rest) o r (inr w) none need f = absurd (omega (arith, w.1, need))
-step_octet a b limits first (Faults frames at why) o r s none need f = let e : Some (record { at = at; why = why }) ≡ None = sym s ∙ none in absurd (cc e)
+step_octet a b limits first (Faults frames at why) o r s none need f = let e : Some (record { at = at; why = why }) ≡ None = sym s.0 ∙ none in absurd (cc e)
 
 -- and behind it
 pub step_run : (a b : Assembler) (limits : ℕ → ℕ) (first : ℕ) (cutting : Cutting) (run : List ℕ) (r : Result Step NoMemory) → StandsAs a limits first cutting → a.fault ≡ None → (a.front.need ≡ 0 → ⊥)
     → ((frames : List Frame) (rest : List ℕ) → Within a limits first frames rest → Took b limits first (Cuts frames rest) run r) → Took b limits first cutting run r
 step_run a b limits first (Cuts frames rest) run r (inl s) none need f = absurd (need s.need_is)
 step_run a b limits first (Cuts frames rest) run r (inr w) none need f = f frames rest w.0
-step_run a b limits first (Faults frames at why) run r s none need f = let e : Some (record { at = at; why = why }) ≡ None = sym s ∙ none in absurd (cc e)
+step_run a b limits first (Faults frames at why) run r s none need f = let e : Some (record { at = at; why = why }) ≡ None = sym s.0 ∙ none in absurd (cc e)
 
 -- ---- a piece
 
@@ -193,9 +194,9 @@ going_ends a limits first cutting piece rest g empty =
 -- ---- the calls of an assembler
 
 -- an assembler that differs in nothing that is seen
-pub stands_like : (a b : Assembler) (limits : ℕ → ℕ) (first : ℕ) (cutting : Cutting) → b.fault ≡ a.fault → b.max_frame ≡ a.max_frame → b.partial ≡ a.partial → b.front ≡ a.front
+pub stands_like : (a b : Assembler) (limits : ℕ → ℕ) (first : ℕ) (cutting : Cutting) → a.fault ≡ None → b.fault ≡ a.fault → b.max_frame ≡ a.max_frame → b.partial ≡ a.partial → b.front ≡ a.front
     → ((i : ℕ) → lane_in b.lanes.items i ≡ lane_in a.lanes.items i) → StandsAs a limits first cutting → StandsAs b limits first cutting
-stands_like a b limits first (Cuts frames rest) fault max partial front lanes (inl s) = inl (record {
+stands_like a b limits first (Cuts frames rest) none fault max partial front lanes (inl s) = inl (record {
   faultless = fault ∙ s.faultless;
   at_is = ap (λ (f : Front). f.at) front ∙ s.at_is;
   short = s.short;
@@ -205,7 +206,7 @@ stands_like a b limits first (Cuts frames rest) fault max partial front lanes (i
   unfinished_is = ap (λ (f : Front). f.unfinished) front ∙ s.unfinished_is;
   limit_is = λ p le. s.limit_is p le ∙ sym max;
 })
-stands_like a b limits first (Cuts frames rest) fault max partial front lanes (inr w) = inr (
+stands_like a b limits first (Cuts frames rest) none fault max partial front lanes (inr w) = inr (
   record {
     faultless = fault ∙ w.0.faultless;
     at_is = ap (λ (f : Front). f.at) front ∙ w.0.at_is;
@@ -223,7 +224,7 @@ stands_like a b limits first (Cuts frames rest) fault max partial front lanes (i
   },
   subst (λ (f : Front). 0 < f.need) (sym front) w.1,
 )
-stands_like a b limits first (Faults frames at why) fault max partial front lanes s = fault ∙ s
+stands_like a b limits first (Faults frames at why) none fault max partial front lanes s = let e : Some (record { at = at; why = why }) ≡ None = sym s.0 ∙ none in absurd (cc e)
 
 -- a piece after a fault
 pub fed_faulty : (a : Assembler) (limits : ℕ → ℕ) (first : ℕ) (octets piece : List ℕ) (fault : FrameFault) → Stands a limits first octets → a.fault ≡ Some fault
@@ -236,7 +237,7 @@ fed_faulty a limits first octets piece fault s is =
     by_cutting (Cuts frames rest) (inl t) = let e : Some fault ≡ None = sym is ∙ t.faultless in absurd (cc e)
     by_cutting (Cuts frames rest) (inr w) = let e : Some fault ≡ None = sym is ∙ w.0.faultless in absurd (cc e)
     by_cutting (Faults frames at why) t =
-        let e : Some fault ≡ Some (record { at = at; why = why }) = sym is ∙ t in
+        let e : Some fault ≡ Some (record { at = at; why = why }) = sym is ∙ t.0 in
         (subst (StandsAs a limits first) (sym (faults_stay limits first frames at why piece)) t, cc e)
 
 -- octets of a piece after those before it
@@ -244,19 +245,19 @@ pub fed_front : (a : Assembler) (limits : ℕ → ℕ) (first : ℕ) (octets xs 
 fed_front a limits first octets xs s = subst (StandsAs a limits first) (sym (cut_parts limits first (Cuts [] []) octets xs)) s
 
 -- the first fault, in this piece
-pub fed_refuses : (a b : Assembler) (limits : ℕ → ℕ) (first : ℕ) (octets piece : List ℕ) (fault : FrameFault) → Stands a limits first octets → a.fault ≡ None → b.fault ≡ Some fault
+pub fed_refuses : (a b : Assembler) (limits : ℕ → ℕ) (first : ℕ) (octets piece : List ℕ) (fault : FrameFault) → Stands a limits first octets → a.fault ≡ None → b.fault ≡ Some fault → kept b ≡ 0
     → RefusesPiece limits first (cut limits first octets) piece fault → Stands b limits first (octets ++ piece) × Refused limits first (cut limits first octets) piece fault
-fed_refuses a b limits first octets piece fault s none is r =
+fed_refuses a b limits first octets piece fault s none is empty r =
     let on : cut_on limits first (cut limits first octets) piece ≡ Faults r.refuses.frames fault.at fault.why =
     ap (cut_on limits first (cut limits first octets)) r.parts ∙ cut_parts limits first (cut limits first octets) r.part r.more
     ∙ ap (λ c. cut_on limits first c r.more) r.refuses.refuses ∙ faults_stay limits first r.refuses.frames fault.at fault.why r.more in (
-      fed_front b limits first octets piece (subst (StandsAs b limits first) (sym on) is),
+      fed_front b limits first octets piece (subst (StandsAs b limits first) (sym on) (is, empty)),
       by_cutting (cut limits first octets) s r,
     )
   where
     by_cutting : (c : Cutting) → StandsAs a limits first c → RefusesPiece limits first c piece fault → Refused limits first c piece fault
     by_cutting (Cuts frames rest) t q = q
-    by_cutting (Faults frames at why) t q = let e : Some (record { at = at; why = why }) ≡ None = sym t ∙ none in absurd (cc e)
+    by_cutting (Faults frames at why) t q = let e : Some (record { at = at; why = why }) ≡ None = sym t.0 ∙ none in absurd (cc e)
 
 -- without a fault none came
 pub faultless_of : (a : Assembler) (f : Option FrameFault) → f ≡ a.fault → is_none f ≡ true → a.fault ≡ None

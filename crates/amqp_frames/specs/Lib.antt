@@ -5,4 +5,6 @@ pub mod Gathered
 pub mod Lane
 pub mod Touched
 pub mod Partial
+pub mod Kept
 pub mod Stands
+pub mod Back

@@ -12,6 +12,7 @@ use Rattle.amqp_frames.specs.declared.assembler.Step.TheVariants as step
 use Rattle.amqp_frames.specs.Assembly.{IsPlaced}
 use Rattle.amqp_frames.specs.Cut.{Frame, Cutting, Cuts, Faults, header_at, frame_of, is_on, open_on, open_size, payload_of_header, place_after, cut, cut_on, whole, is_quiet, all_quiet}
 use Rattle.amqp_frames.specs.Frames.{track}
+use Rattle.amqp_frames.specs.Kept.{kept}
 use Rattle.amqp_frames.specs.Lane.{lane_of}
 use Rattle.amqp_frames.specs.Touched.{lane_in, undone, InReach}
 
@@ -47,10 +48,10 @@ pub record Within (a : Assembler) (limits : ℕ → ℕ) (first : ℕ) (frames :
   pub unfinished_is : a.front.unfinished ≡ open_size frames + payload_of_header a.front.header
   pub limit_is : (p : ℕ) → place_after first frames < p → limits p ≡ a.max_frame
 
--- the assembler is where the cut is
+-- the assembler is where the cut is, and keeps no octets after a fault
 abbrev pub StandsAs : Assembler → (ℕ → ℕ) → ℕ → Cutting → Type 0
 StandsAs a limits first (Cuts frames rest) = Between a limits first frames rest ⊎ (Within a limits first frames rest × (0 < a.front.need))
-StandsAs a limits first (Faults frames at why) = a.fault ≡ Some (record { at = at; why = why })
+StandsAs a limits first (Faults frames at why) = (a.fault ≡ Some (record { at = at; why = why })) × (kept a ≡ 0)
 
 -- it took these octets, for the largest frame at each place
 abbrev pub Stands : Assembler → (ℕ → ℕ) → ℕ → List ℕ → Type 0

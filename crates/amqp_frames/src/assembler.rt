@@ -1,7 +1,8 @@
 //! Octets of a connection to assemblies, in any cut.
-ghost use Rattle.std.specs.Prelude.{◌≡◌, ◌<◌, ◌≤◌, ℕ, List, [], ◌∷◌, ◌++◌, length, take, IfOk, IfSome, OnErr, Some, None};
+ghost use Rattle.std.specs.Prelude.{◌≡◌, ◌<◌, ◌≤◌, ◌+◌, ◌^◌, ℕ, List, [], ◌∷◌, ◌++◌, length, take, IfOk, IfSome, OnErr, Some, None};
 ghost use Rattle.amqp_frames.specs.Assembly.{IsPlaced};
 ghost use Rattle.amqp_frames.specs.Cut.{Frame, Cutting, Cuts, frame_of, header_at, place_after, fault_beside, frame_fault, checked, grown, cut_octet, cut, ended_by};
+ghost use Rattle.amqp_frames.specs.Kept.{kept};
 ghost use Rattle.amqp_frames.specs.Stands.{Between, Within, StandsAs, Stands, After, Took, KeepsLog, LogKept, TookPiece, Feeds, TakesSome, StepPlaced, FedPlaced, unchecked};
 ghost use Rattle.amqp_frames.specs.Touched.{lane_in, lane_number};
 
@@ -244,6 +245,10 @@ impl Assembler {
                 Ok(Fed { taken, done })
             }
             Err(FrameError::Bad(fault)) => {
+                // Nothing that came is of use any more.
+                self.lanes = Vec::new(self.alloc);
+                self.log = Vec::new(self.alloc);
+                self.partial = Partial::new();
                 self.fault = Some(fault);
                 Err(FrameError::Bad(fault))
             }
@@ -293,9 +298,11 @@ impl Assembler {
 
     /// Takes octets up to the end of the first assembly in them, else all.
     ///
-    /// After a fault each further piece is answered by the same one.
+    /// After a fault each further piece is answered by the same one, and no octets are kept.
     pub fn feed(&mut self, piece: &[u8]) -> Result<Fed, FrameError>
         ensures feeds { (limits : ℕ → ℕ) (first : ℕ) (octets : List ℕ) → Stands self.old limits first octets → Feeds self.new limits first octets piece.now result }
+        // The payloads of open assemblies, and a part of a header.
+        ensures keeps { (limits : ℕ → ℕ) (first : ℕ) (octets : List ℕ) → Stands self.old limits first octets → kept self.new ≤ 2 ^ 25 + 11 }
         ensures takes { TakesSome piece.now result }
         ensures placed { FedPlaced result }
     {

@@ -1,5 +1,7 @@
 //! Assemblies laid in frames.
-ghost use Rattle.std.specs.Prelude.{◌≡◌, ◌++◌, ◌+◌, ◌-◌, ◌<◌, ◌≤◌, ◌^◌, suc, length, OnOk, OnErr};
+ghost use Rattle.std.specs.Prelude.{◌≡◌, ℕ, List, ◌++◌, ◌+◌, ◌-◌, ◌<◌, ◌≤◌, ◌^◌, suc, length, OnOk, OnErr};
+ghost use Rattle.amqp_frames.specs.Back.{MayCome, ComesBack};
+ghost use Rattle.amqp_frames.specs.Cut.{Frame};
 ghost use Rattle.amqp_frames.specs.Frames.{frame, frames_from, laid_segment, last_mark, laid_segments, laid};
 
 use crate::assembly::{Assembly, Segment};
@@ -29,6 +31,9 @@ pub fn write_frames(
 ) -> Result<(), NoMemory>
     requires { 4096 ≤ max_frame }
     ensures ok { OnOk result (out.new.items ≡ out.old.items ++ laid channel assembly.now max_frame) }
+    // What was laid comes back, whatever whole frames stand before it.
+    ensures back { (limits : ℕ → ℕ) (first : ℕ) (frames : List Frame) → MayCome limits first frames channel assembly.now max_frame
+        → ComesBack limits first frames channel assembly.now (laid channel assembly.now max_frame) }
     ensures err { OnErr result (out.new.items ≡ out.old.items) }
 {
     let mut octets = Vec::new(alloc);
