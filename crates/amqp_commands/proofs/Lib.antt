@@ -3,3 +3,4 @@ pub mod Known
 pub mod Again
 pub mod Found
 pub mod Fine
+pub mod Putting

@@ -1,8 +1,10 @@
 //! The kinds of commands, by class and code.
 ghost use Rattle.std.specs.Prelude.{◌≡◌, ◌≤◌, length};
 ghost use Rattle.amqp_commands.specs.Kinds.{is_command_class, command_class, command_code, command_table, command_kind};
+ghost use Rattle.amqp_commands.specs.Terms.{command_kind_of};
 
 use amqp_packed::FieldKind;
+use amqp_terms::Command;
 
 /// What a command is, without its fields (AMQP 0-10, "execution" to "queue").
 #[derive(Clone, Copy, Debug, PartialEq, Eq)]
@@ -84,6 +86,52 @@ pub enum CommandKind {
 }
 
 impl CommandKind {
+    /// The kind of a command; none of an unknown one.
+    pub fn of(command: &Command) -> Option<CommandKind>
+        ensures { result ≡ command_kind_of command.now }
+    {
+        match command {
+            Command::ExecutionSync => Some(CommandKind::ExecutionSync),
+            Command::ExecutionResult { .. } => Some(CommandKind::ExecutionResult),
+            Command::ExecutionException { .. } => Some(CommandKind::ExecutionException),
+            Command::MessageTransfer { .. } => Some(CommandKind::MessageTransfer),
+            Command::MessageAccept { .. } => Some(CommandKind::MessageAccept),
+            Command::MessageReject { .. } => Some(CommandKind::MessageReject),
+            Command::MessageRelease { .. } => Some(CommandKind::MessageRelease),
+            Command::MessageAcquire { .. } => Some(CommandKind::MessageAcquire),
+            Command::MessageSubscribe { .. } => Some(CommandKind::MessageSubscribe),
+            Command::MessageCancel { .. } => Some(CommandKind::MessageCancel),
+            Command::MessageSetFlowMode { .. } => Some(CommandKind::MessageSetFlowMode),
+            Command::MessageFlow { .. } => Some(CommandKind::MessageFlow),
+            Command::MessageFlush { .. } => Some(CommandKind::MessageFlush),
+            Command::MessageStop { .. } => Some(CommandKind::MessageStop),
+            Command::TxSelect => Some(CommandKind::TxSelect),
+            Command::TxCommit => Some(CommandKind::TxCommit),
+            Command::TxRollback => Some(CommandKind::TxRollback),
+            Command::DtxSelect => Some(CommandKind::DtxSelect),
+            Command::DtxStart { .. } => Some(CommandKind::DtxStart),
+            Command::DtxEnd { .. } => Some(CommandKind::DtxEnd),
+            Command::DtxCommit { .. } => Some(CommandKind::DtxCommit),
+            Command::DtxForget { .. } => Some(CommandKind::DtxForget),
+            Command::DtxGetTimeout { .. } => Some(CommandKind::DtxGetTimeout),
+            Command::DtxPrepare { .. } => Some(CommandKind::DtxPrepare),
+            Command::DtxRollback { .. } => Some(CommandKind::DtxRollback),
+            Command::DtxRecover => Some(CommandKind::DtxRecover),
+            Command::DtxSetTimeout { .. } => Some(CommandKind::DtxSetTimeout),
+            Command::ExchangeDeclare { .. } => Some(CommandKind::ExchangeDeclare),
+            Command::ExchangeDelete { .. } => Some(CommandKind::ExchangeDelete),
+            Command::ExchangeQuery { .. } => Some(CommandKind::ExchangeQuery),
+            Command::ExchangeBind { .. } => Some(CommandKind::ExchangeBind),
+            Command::ExchangeUnbind { .. } => Some(CommandKind::ExchangeUnbind),
+            Command::ExchangeBound { .. } => Some(CommandKind::ExchangeBound),
+            Command::QueueDeclare { .. } => Some(CommandKind::QueueDeclare),
+            Command::QueueDelete { .. } => Some(CommandKind::QueueDelete),
+            Command::QueuePurge { .. } => Some(CommandKind::QueuePurge),
+            Command::QueueQuery { .. } => Some(CommandKind::QueueQuery),
+            Command::Unknown { .. } => None,
+        }
+    }
+
     /// Its class octet.
     pub fn class(self) -> u8
         ensures { result ≡ command_class self }

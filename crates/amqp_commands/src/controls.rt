@@ -1,8 +1,10 @@
 //! The kinds of controls, by class and code.
 ghost use Rattle.std.specs.Prelude.{◌≡◌, ◌≤◌, length};
 ghost use Rattle.amqp_commands.specs.Kinds.{is_control_class, control_class, control_code, control_table, control_kind};
+ghost use Rattle.amqp_commands.specs.Terms.{control_kind_of};
 
 use amqp_packed::FieldKind;
+use amqp_terms::Control;
 
 /// What a control is, without its fields (AMQP 0-10, "connection", "session").
 #[derive(Clone, Copy, Debug, PartialEq, Eq)]
@@ -58,6 +60,38 @@ pub enum ControlKind {
 }
 
 impl ControlKind {
+    /// The kind of a control.
+    pub fn of(control: &Control) -> ControlKind
+        ensures { result ≡ control_kind_of control.now }
+    {
+        match control {
+            Control::ConnectionStart { .. } => ControlKind::ConnectionStart,
+            Control::ConnectionStartOk { .. } => ControlKind::ConnectionStartOk,
+            Control::ConnectionSecure { .. } => ControlKind::ConnectionSecure,
+            Control::ConnectionSecureOk { .. } => ControlKind::ConnectionSecureOk,
+            Control::ConnectionTune { .. } => ControlKind::ConnectionTune,
+            Control::ConnectionTuneOk { .. } => ControlKind::ConnectionTuneOk,
+            Control::ConnectionOpen { .. } => ControlKind::ConnectionOpen,
+            Control::ConnectionOpenOk { .. } => ControlKind::ConnectionOpenOk,
+            Control::ConnectionHeartbeat => ControlKind::ConnectionHeartbeat,
+            Control::ConnectionClose { .. } => ControlKind::ConnectionClose,
+            Control::ConnectionCloseOk => ControlKind::ConnectionCloseOk,
+            Control::SessionAttach { .. } => ControlKind::SessionAttach,
+            Control::SessionAttached { .. } => ControlKind::SessionAttached,
+            Control::SessionDetach { .. } => ControlKind::SessionDetach,
+            Control::SessionDetached { .. } => ControlKind::SessionDetached,
+            Control::SessionRequestTimeout { .. } => ControlKind::SessionRequestTimeout,
+            Control::SessionTimeout { .. } => ControlKind::SessionTimeout,
+            Control::SessionCommandPoint { .. } => ControlKind::SessionCommandPoint,
+            Control::SessionExpected { .. } => ControlKind::SessionExpected,
+            Control::SessionConfirmed { .. } => ControlKind::SessionConfirmed,
+            Control::SessionCompleted { .. } => ControlKind::SessionCompleted,
+            Control::SessionKnownCompleted { .. } => ControlKind::SessionKnownCompleted,
+            Control::SessionFlush { .. } => ControlKind::SessionFlush,
+            Control::SessionGap { .. } => ControlKind::SessionGap,
+        }
+    }
+
     /// Its class octet.
     pub fn class(self) -> u8
         ensures { result ≡ control_class self }

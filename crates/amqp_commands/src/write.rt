@@ -6,8 +6,7 @@ ghost use Rattle.amqp_frames.specs.Assembly.{IsPlaced};
 ghost use Rattle.amqp_terms.specs.declared.unit.Unit.TheVariants as AnyUnit;
 ghost use Rattle.amqp_commands.specs.Units.{control_octets, command_octets, content_segments, content_sound, unit_segments, unit_fine, command_fine};
 
-use crate::put_commands::put_command;
-use crate::put_controls::put_control;
+use crate::put::{put_command, put_control};
 use amqp_frames::{Assembly, Segment};
 use amqp_structs::put_structs;
 use amqp_terms::{Command, Content, Control, Header, Unit};
@@ -60,7 +59,7 @@ fn push_control(alloc: Global, assembly: &mut Assembly, control: &Control) -> Re
     ensures { OnOk result (assembly.new ≡ assembly.old ++ unit_segments (AnyUnit.Control control.now)) }
 {
     let mut octets = Vec::new(alloc);
-    put_control(&mut octets, control)?;
+    put_control(alloc, &mut octets, control)?;
     push(assembly, 0, octets)
 }
 
@@ -75,7 +74,7 @@ fn push_command(
     ensures { OnOk result (assembly.new ≡ assembly.old ++ record { kind = 1; octets = command_octets sync command.now } ∷ []) }
 {
     let mut octets = Vec::new(alloc);
-    put_command(&mut octets, sync, command)?;
+    put_command(alloc, &mut octets, sync, command)?;
     push(assembly, 1, octets)
 }
 

@@ -87,6 +87,10 @@ short_run limits first frames rest (o ∷ xs) lt =
           (ap is_quiet now ∙ quiet_rest frames (rest ++ o ∷ []) (omega (arith, n))) (ap (λ c. all_quiet limits first c xs) now ∙ later.1),
     )
 
+-- they bring nothing
+pub few_octets : (limits : ℕ → ℕ) (first : ℕ) (frames : List Frame) (xs : List ℕ) → length xs < 12 → all_quiet limits first (Cuts frames []) xs ≡ true
+few_octets limits first frames xs lt = (short_run limits first frames [] xs (omega (arith, lt))).1
+
 grown_whole : (at : ℕ) (frames : List Frame) (rest : List ℕ) → length rest ≡ (header_at rest).size → grown at frames rest ≡ Cuts (frame_of at rest ∷ frames) []
 grown_whole at frames rest e = ap (λ b. cond b (Cuts (frame_of at rest ∷ frames) []) (Cuts frames rest)) (eq-eqb (length rest) (header_at rest).size e)
 
@@ -643,11 +647,11 @@ content_is s ss f = elim (cases_eq s.kind 0) [
 -- ---- the whole
 
 -- what the laid octets leave is the assembly
-comes_of : (limits : ℕ → ℕ) (first channel kind n m : ℕ) (frames : List Frame) (s : Segment) (ss : List Segment) (octets : List ℕ) → First s ss
-    → Lays limits first channel (track s.kind) frames [] true true kind (λ k. payloads_in k (s ∷ ss)) (λ k. kind_in k (s ∷ ss)) n m octets
+comes_of : (limits : ℕ → ℕ) (first channel kind m : ℕ) (frames : List Frame) (s : Segment) (ss : List Segment) (octets : List ℕ) → First s ss → m ≤ 4
+    → Lays limits first channel (track s.kind) frames [] true true kind (λ k. payloads_in k (s ∷ ss)) (λ k. kind_in k (s ∷ ss)) (octets_in (s ∷ ss)) m octets
     → ComesBack limits first frames channel (s ∷ ss) octets
 unfolding content_of
-comes_of limits first channel kind n m frames s ss octets f l =
+comes_of limits first channel kind m frames s ss octets f small l =
     let g = l.g in
     let t = track s.kind in
     let opens : open_on g.header.channel g.header.track (l.gs ++ frames) ≡ l.gs =
@@ -675,6 +679,7 @@ comes_of limits first channel kind n m frames s ss octets f l =
           (ap (λ x. eqb x c && eqb g.header.track u) l.channel_is ∙ ap (λ x. eqb channel c && eqb x u) l.track_is ∙ ne) ∙ l.laid.others c u ne;
       open_same = ap (λ b. cond b (open_size (l.gs ++ frames) - payloads_size (open_on g.header.channel g.header.track (l.gs ++ frames))) (open_size (l.gs ++ frames) + payload_of_header g.header)) l.ends_is
           ∙ omega (arith, l.laid.size_is, ap payloads_size opens);
+      few = omega (arith, l.bound, small);
     }
 
 nil_true : {ss : List Segment} → ss ≡ [] → is_nil ss ≡ true
@@ -716,7 +721,7 @@ comes_back limits first frames channel (s ∷ ss) max_frame low small m =
       assembly_fits = omega (arith, m.assembly_fits);
       open_fits = omega (arith, m.open_fits);
     }) in
-    comes_of limits first channel cuts.0 (octets_in (s ∷ ss)) (length (s ∷ ss)) frames s ss (laid channel (s ∷ ss) max_frame) f cuts.1
+    comes_of limits first channel cuts.0 (length (s ∷ ss)) frames s ss (laid channel (s ∷ ss) max_frame) f (omega (arith, few)) cuts.1
   where
     later_low : First s ss → is_nil ss ≡ false → 1 ≤ s.kind
     later_low f e = elim (cases_eq s.kind 0) [ inl zero_is ↦ absurd (nil_is (f.alone zero_is) e) | inr ne ↦ omega (arith, ne) ]

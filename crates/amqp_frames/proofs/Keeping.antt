@@ -8,7 +8,10 @@ use Rattle.octet_reading.specs.declared.why.Why.TheVariants.{BadFlags}
 use Rattle.amqp_frames.specs.declared.assembler.Assembler.{Assembler}
 use Rattle.amqp_frames.specs.declared.header.FrameHeader.{FrameHeader}
 use Rattle.amqp_frames.specs.declared.lane.Lane.{Lane}
-use Rattle.amqp_frames.specs.Cut.{Frame, Cutting, Cuts, Faults, header_at, frame_of, is_on, open_on, open_size, ends_assembly, payloads_of, payloads_size, payload_of_header, place_after, frame_fault, form_fault, in_place, newest, size_fault, checked, grown, cut_octet, cut_on, cut}
+use Rattle.amqp_frames.specs.declared.done.Done.{Done}
+use Rattle.amqp_frames.specs.Assembly.{IsPlaced}
+use Rattle.amqp_frames.specs.Back.{octets_in}
+use Rattle.amqp_frames.specs.Cut.{Frame, Cutting, Cuts, Faults, header_at, frame_of, is_on, open_on, open_size, ends_assembly, payloads_of, payloads_size, payload_of_header, place_after, frame_fault, form_fault, in_place, newest, size_fault, checked, grown, cut_octet, cut_on, cut, oldest_from, segments_of, has_kind, whole}
 use Rattle.amqp_frames.specs.Frames.{track}
 use Rattle.amqp_frames.specs.Kept.{kept_in_lane, kept_in_lanes, kept}
 use Rattle.amqp_frames.specs.Lane.{lane_of, empty_lane}
@@ -23,22 +26,26 @@ use Rattle.amqp_frames.proofs.Octets.{octet_short, octet_twelfth, octet_long, he
 -- ---- what the frames of a cut are
 
 -- a frame that was checked, with its payload whole
-record Checked (f : Frame) (frames : List Frame) : Type 0 where
+pub record Checked (f : Frame) (frames : List Frame) : Type 0 where
   pub track_small : f.header.track ≤ 1
+  pub channel_small : f.header.channel ≤ 63
+  pub assembly_small : payloads_size (f ∷ open_on f.header.channel f.header.track frames) ≤ 16777216
   pub whole : length f.payload ≡ payload_of_header f.header
   pub bounded : open_size (f ∷ frames) ≤ 33554432
 
-AllChecked : List Frame → Type 0
+pub AllChecked : List Frame → Type 0
 AllChecked [] = Unit {0}
 AllChecked (f ∷ frames) = Checked f frames × AllChecked frames
 
 -- a frame that was checked, with a part of its payload
-record AtHand (frames : List Frame) (rest : List ℕ) : Type 0 where
+pub record AtHand (frames : List Frame) (rest : List ℕ) : Type 0 where
   pub track_small : (header_at rest).track ≤ 1
+  pub channel_small : (header_at rest).channel ≤ 63
+  pub assembly_small : payloads_size (open_on (header_at rest).channel (header_at rest).track frames) + payload_of_header (header_at rest) ≤ 16777216
   pub bounded : open_size frames + payload_of_header (header_at rest) ≤ 33554432
   pub within : length rest ≤ (header_at rest).size
 
-IsChecked : Cutting → Type 0
+pub IsChecked : Cutting → Type 0
 unfolding AllChecked
 IsChecked (Cuts frames rest) = AllChecked frames × (12 ≤ length rest → AtHand frames rest × (length rest < (header_at rest).size))
 IsChecked (Faults frames at why) = Unit {0}
@@ -57,6 +64,8 @@ grown_checked at frames rest a long h =
       (
         record {
           track_small = h.track_small;
+          channel_small = h.channel_small;
+          assembly_small = h.assembly_small;
           whole = omega (arith, length-drop 12 rest, eqb-true (length rest) (header_at rest).size e);
           bounded = cond_both (ends_assembly (header_at rest)) (open_size frames - payloads_size (open_on (header_at rest).channel (header_at rest).track frames)) (open_size frames + payload_of_header (header_at rest)) (λ n. n ≤ 33554432)
               (λ x. omega (arith, h.bounded)) (λ x. h.bounded);
@@ -82,6 +91,8 @@ checked_checked None limits at frames rest a twelve e =
     let fits = fits_of (limits at) at (header_at rest) frames e in
     grown_checked at frames rest a (omega (arith, twelve)) (record {
       track_small = subst (λ n. n ≤ 1) (sym fits.form.track_is) (track_low (header_at rest).kind);
+      channel_small = fits.form.channel_low;
+      assembly_small = fits.assembly_fits;
       bounded = fits.open_fits;
       within = omega (arith, twelve, fits.form.low);
     })
@@ -105,6 +116,8 @@ octet_checked limits first (Cuts frames rest) o s =
             subst IsChecked (sym (octet_long limits first frames rest o long))
             (grown_checked (place_after first frames) frames (rest ++ o ∷ []) s.0 (omega (arith, n, long)) (record {
               track_small = subst (λ (g : FrameHeader). g.track ≤ 1) (sym same) h.0.track_small;
+              channel_small = subst (λ (g : FrameHeader). g.channel ≤ 63) (sym same) h.0.channel_small;
+              assembly_small = subst (λ (g : FrameHeader). payloads_size (open_on g.channel g.track frames) + payload_of_header g ≤ 16777216) (sym same) h.0.assembly_small;
               bounded = subst (λ (g : FrameHeader). open_size frames + payload_of_header g ≤ 33554432) (sym same) h.0.bounded;
               within = omega (arith, n, h.1, size_is);
             }))
@@ -337,3 +350,68 @@ pub feeds_kept : (a : Assembler) (limits : ℕ → ℕ) (first : ℕ) (octets pi
 feeds_kept a limits first octets piece (Ok fed) f = stands_kept a limits first (octets ++ take fed.taken piece) f.0
 feeds_kept a limits first octets piece (Err (error.Bad fault)) f = stands_kept a limits first (octets ++ piece) f.0
 feeds_kept a limits first octets piece (Err error.NoMemory) f = stands_kept a limits first octets f
+
+-- ---- what is handed out
+
+-- an assembly that may be laid again
+pub record IsSmall (done : Done) : Type 0 where
+  pub channel_small : done.channel ≤ 63
+  pub placed : IsPlaced done.assembly
+  pub octets_small : octets_in done.assembly ≤ 16777216
+
+segments_placed : (t : ℕ) (frames : List Frame) → IsPlaced (segments_of t frames)
+segments_placed t frames = by_test (eqb t 0) (has_kind 2 frames) (has_kind 3 frames) (payloads_of 0 frames) (payloads_of 1 frames) (payloads_of 2 frames) (payloads_of 3 frames)
+  where
+    by_test : (a b c : Bool) (w x y z : List ℕ)
+        → IsPlaced (cond a (record { kind = 0; octets = w } ∷ []) (record { kind = 1; octets = x } ∷ (cond b (record { kind = 2; octets = y } ∷ []) [] ++ cond c (record { kind = 3; octets = z } ∷ []) [])))
+    by_test true b c w x y z = refl
+    by_test false true true w x y z = refl
+    by_test false true false w x y z = refl
+    by_test false false true w x y z = refl
+    by_test false false false w x y z = refl
+
+segments_fit : (t : ℕ) (frames : List Frame) → t ≤ 1 → AllFit frames → octets_in (segments_of t frames) ≤ payloads_size frames
+segments_fit t frames le a = elim (cases_order t 0) [
+  | inl none ↦
+      let is : segments_of t frames ≡ record { kind = 0; octets = payloads_of 0 frames } ∷ [] = ap (λ n. segments_of n frames) none in
+      omega (arith, ap octets_in is, lane_fits 0 frames (omega arith) a)
+  | inr order ↦
+      let one : t ≡ 1 = elim order [ inl lt ↦ absurd (omega (arith, lt)) | inr gt ↦ omega (arith, gt, le) ] in
+      omega (arith, ap (λ n. octets_in (segments_of n frames)) one, by_test (has_kind 2 frames) (has_kind 3 frames) (payloads_of 1 frames) (payloads_of 2 frames) (payloads_of 3 frames), lane_fits 1 frames (omega arith) a)
+]
+  where
+    by_test : (b c : Bool) (x y z : List ℕ)
+        → octets_in (record { kind = 1; octets = x } ∷ (cond b (record { kind = 2; octets = y } ∷ []) [] ++ cond c (record { kind = 3; octets = z } ∷ []) [])) ≤ length x + length y + length z
+    by_test true true x y z = omega arith
+    by_test true false x y z = omega arith
+    by_test false true x y z = omega arith
+    by_test false false x y z = omega arith
+
+pub IsChecked-start : IsChecked (Cuts [] [])
+unfolding IsChecked AllChecked
+IsChecked-start = (tt, λ le. absurd (omega (arith, le)))
+
+pub checked_octet : (limits : ℕ → ℕ) (first : ℕ) (c : Cutting) (o : ℕ) → IsChecked c → IsChecked (cut_octet limits first c o)
+checked_octet limits first c o s = octet_checked limits first c o s
+
+pub checked_done : (c : Cutting) (done : Done) → IsChecked c → whole c ≡ Some done → IsSmall done
+unfolding IsChecked AllChecked AllFit
+checked_done (Cuts [] []) done k e = absurd (cc e)
+checked_done (Cuts (f ∷ frames) []) done k e =
+    let d : Done = record { channel = f.header.channel; assembly = segments_of f.header.track (f ∷ open_on f.header.channel f.header.track frames); at = oldest_from f.at (open_on f.header.channel f.header.track frames); end = f.at + f.header.size } in
+    let small : IsSmall d = record {
+      channel_small = k.0.0.channel_small;
+      placed = segments_placed f.header.track (f ∷ open_on f.header.channel f.header.track frames);
+      octets_small = omega (
+        arith,
+        k.0.0.assembly_small,
+        segments_fit f.header.track (f ∷ open_on f.header.channel f.header.track frames) k.0.0.track_small (omega (arith, k.0.0.whole), open_fit f.header.channel f.header.track frames k.0.1),
+      );
+    } in
+    by_end (ends_assembly f.header) d small e
+  where
+    by_end : (b : Bool) (d : Done) → IsSmall d → cond b (Some d) None ≡ Some done → IsSmall done
+    by_end true d small q = let same : d ≡ done = cc q in subst IsSmall same small
+    by_end false d small q = absurd (cc q)
+checked_done (Cuts frames (o ∷ rest)) done k e = absurd (cc e)
+checked_done (Faults frames at why) done k e = absurd (cc e)

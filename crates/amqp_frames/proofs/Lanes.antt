@@ -132,6 +132,7 @@ pub record Formed (at : ℕ) (h : FrameHeader) : Type 0 where
   pub low : 12 ≤ h.size
   pub kind_low : h.kind ≤ 3
   pub track_is : h.track ≡ track h.kind
+  pub channel_low : h.channel ≤ 63
 
 none_parts : (b : Bool) (why : Why) (other : Option Why) → cond b (Some why) other ≡ None → (b ≡ false) × (other ≡ None)
 none_parts true why other e = absurd (cc e)
@@ -144,11 +145,13 @@ formed max at h e =
     let c = none_parts (not (eqb (bit_and h.flags 192) 0)) _ _ b.1 in
     let d = none_parts (ltb 3 h.kind) _ _ c.1 in
     let t = none_parts (not (eqb h.track (track h.kind))) _ _ d.1 in
+    let k = none_parts (ltb 63 h.channel) _ _ t.1 in
     record {
       near = leb-false (2 ^ 62) at a.0;
       low = ltb-false h.size 12 (or_none (ltb h.size 12) (ltb max h.size) b.0);
       kind_low = ltb-false 3 h.kind d.0;
       track_is = eqb-true h.track (track h.kind) (not-false (eqb h.track (track h.kind)) t.0);
+      channel_low = ltb-false 63 h.channel k.0;
     }
   where
     or_none : (x y : Bool) → (x || y) ≡ false → x ≡ false

@@ -1,5 +1,5 @@
 -- What was laid in frames is cut out of them again.
-use Rattle.std.specs.Prelude.{◌≡◌, ℕ, ◌+◌, ◌^◌, ◌<◌, ◌≤◌, ◌==◌, ◌&&◌, false, List, [], ◌∷◌, ◌++◌, length}
+use Rattle.std.specs.Prelude.{◌≡◌, ℕ, ◌+◌, ◌*◌, ◌^◌, ◌<◌, ◌≤◌, ◌==◌, ◌&&◌, false, List, [], ◌∷◌, ◌++◌, length}
 use Rattle.amqp_frames.specs.declared.assembly.Segment.{Segment}
 use Rattle.amqp_frames.specs.Assembly.{IsPlaced}
 use Rattle.amqp_frames.specs.Cut.{Frame, Cuts, cut_on, open_on, open_size, place_after}
@@ -35,3 +35,4 @@ pub record ComesBack (limits : ℕ → ℕ) (first : ℕ) (frames : List Frame) 
   pub free : open_on channel (track_of segments) (later ++ frames) ≡ []
   pub others : (c t : ℕ) → ((channel == c) && (track_of segments == t)) ≡ false → open_on c t (later ++ frames) ≡ open_on c t frames
   pub open_same : open_size (later ++ frames) ≡ open_size frames
+  pub few : length octets ≤ 13 * octets_in segments + 48

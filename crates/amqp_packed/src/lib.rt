@@ -21,4 +21,4 @@ pub use take::{
     take_str8, take_str16, take_struct32, take_u8, take_u16, take_u32, take_u64, take_uuid,
     take_vbin8, take_vbin16, take_vbin32, take_xid,
 };
-pub use write::{put_fields, write_fields};
+pub use write::{put_field, put_fields, write_fields};

@@ -97,8 +97,9 @@ fn flags_of(fields: &[FieldRef<'_>]) -> u16
     }
 }
 
-/// Puts what stands for a field.
-fn put_field(out: &mut Vec<u8>, field: FieldRef<'_>) -> Result<(), NoMemory>
+/// Puts the octets of a field that has a spelling; none of an absent one, nor of a bit, whose flag is its value.
+/// Without memory a part of them may stand there.
+pub fn put_field(out: &mut Vec<u8>, field: FieldRef<'_>) -> Result<(), NoMemory>
     requires { lent_fine field ≡ true }
     ensures { OnOk result (out.new.items ≡ out.old.items ++ field_octets (lent field.entry)) }
 {

@@ -11,4 +11,4 @@ mod write;
 pub use error::HeaderError;
 pub use read::{header_of, read_header};
 pub use result::{ResultKind, read_result, result_kind, write_result};
-pub use write::{header_size, put_structs, write_header};
+pub use write::{delivery_refs, header_size, message_refs, put_structs, write_header};

@@ -104,9 +104,9 @@ fn content_size(item: &HeaderItem) -> u64
     }
 }
 
-/// The fields of 4,1 delivery-properties, lent.
+/// The fields of 4,1 delivery-properties in the order of its table, lent; absent ones too.
 #[tactic(auto, unfolding(crate::specs::Header::delivery_fields))]
-fn delivery_refs(properties: &DeliveryProperties) -> [FieldRef<'_>; 12]
+pub fn delivery_refs(properties: &DeliveryProperties) -> [FieldRef<'_>; 12]
     ensures fields { map lent result ≡ delivery_fields properties.now }
     ensures count { length (delivery_fields properties.now) ≡ 12 }
 {
@@ -126,9 +126,9 @@ fn delivery_refs(properties: &DeliveryProperties) -> [FieldRef<'_>; 12]
     ]
 }
 
-/// The fields of 4,3 message-properties, lent.
+/// The fields of 4,3 message-properties in the order of its table, lent; absent ones too.
 #[tactic(auto, unfolding(crate::specs::Header::message_fields))]
-fn message_refs(properties: &MessageProperties) -> [FieldRef<'_>; 9]
+pub fn message_refs(properties: &MessageProperties) -> [FieldRef<'_>; 9]
     ensures fields { map lent result ≡ message_fields properties.now }
     ensures count { length (message_fields properties.now) ≡ 9 }
 {

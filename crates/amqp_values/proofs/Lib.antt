@@ -1,7 +1,7 @@
 pub mod Cases
 pub mod Insides
 pub mod Items
-pub mod Keys
+pub mod Noting
 pub mod Known
 pub mod Public
 pub mod ReadBack

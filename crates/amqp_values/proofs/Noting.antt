@@ -1,12 +1,14 @@
 -- The keys that were seen are those of the pairs.
-use Rattle.std.proofs.Common.{◌≡◌, ℕ, ◌||◌, Bool, true, false, List, [], ◌∷◌, ◌++◌, sym, ap, ◌∙◌, refl}
-use Rattle.std.specs.Prelude.{bytes_eq}
+use Rattle.std.proofs.Common.{◌≡◌, ℕ, ◌+◌, ◌<◌, ◌≤◌, ◌||◌, length, arith, Bool, true, false, Result, Ok, Err, List, [], ◌∷◌, ◌++◌, sym, ap, ◌∙◌, refl}
+use Rattle.std.specs.Prelude.{OnOk, bytes_eq}
 use Rattle.std.specs.Cmp.Lexicographic.{slice_cmp, texts_ties}
 use Rattle.std.specs.Ordering.{nat_cmp}
 use Rattle.std.specs.BTreeMap.{is_at}
+use Rattle.std.proofs.lemmas.List.{length-append}
+use Rattle.octet_reading.specs.declared.memory.NoMemory.{NoMemory}
 use Rattle.amqp_values.specs.declared.value.Pair.{Pair}
 use Rattle.amqp_values.specs.declared.value.Value.{Value}
-use Rattle.amqp_values.specs.Values.{has_key, has_text, SeesAll}
+use Rattle.amqp_values.specs.Values.{has_key, has_text, SeesAll, SeesLong}
 
 or_swap : (a b : Bool) → (a || b) ≡ (b || a)
 or_swap true true = refl
@@ -32,3 +34,18 @@ pub sees_more : (old new : List (List ℕ)) (pairs : List (Pair Value)) (key : L
 sees_more old new pairs key value all added = λ text.
     added text ∙ ap (λ b. b || has_text old text) (sym (texts_ties key text)) ∙ or_swap (bytes_eq key text) (has_text old text)
     ∙ ap (λ b. b || bytes_eq key text) (all text) ∙ sym (key_more pairs (record { key = key; value = value }) text)
+
+-- few pairs and one more
+pub sees_few : (keys : List (List ℕ)) (pairs : List (Pair Value)) (p : Pair Value) → length pairs < 16 → SeesLong keys pairs → SeesLong keys (pairs ++ p ∷ [])
+sees_few keys pairs p lt s = (λ le. s.0 (omega (arith, lt)), λ more. absurd (omega (arith, more, lt, length-append pairs (p ∷ []))))
+
+-- many pairs and one more
+pub sees_many : (old new : List (List ℕ)) (pairs : List (Pair Value)) (key : List ℕ) (value : Value) → 16 ≤ length pairs → SeesAll old pairs
+    → ((q : List ℕ) → has_text new q ≡ (is_at (slice_cmp nat_cmp key) q || has_text old q)) → SeesLong new (pairs ++ record { key = key; value = value } ∷ [])
+sees_many old new pairs key value le all added =
+    (λ few. absurd (omega (arith, few, le, length-append pairs (record { key = key; value = value } ∷ []))), λ more. sees_more old new pairs key value all added)
+
+-- what follows from what was noted
+pub on_noted : (r : Result Bool NoMemory) (A B : Type 0) → OnOk r A → (A → B) → OnOk r B
+on_noted (Ok x) A B h f = f h
+on_noted (Err e) A B h f = tt

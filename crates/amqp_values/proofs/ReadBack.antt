@@ -23,7 +23,7 @@ use Rattle.amqp_values.specs.Codes.{kind, is_known, is_array_code}
 use Rattle.octet_reading.specs.Spelling.{sized, fits}
 use Rattle.amqp_values.specs.Spelling.{Told, told, told_pair, map_told, list_told, array_told, fixed_fine, bin_fine, bin_octets, item_octets, pair_octets, counted, keys_fine, deepest, deepest_pair}
 use Rattle.amqp_values.specs.Values.{Reader, item_at, pair_at, has_key, map_in, list_in, array_in, content_in, container_at, fixed_at, boolean_at, kind_at, read_by, inner_at, value_at}
-use Rattle.amqp_values.proofs.Keys.{key_more}
+use Rattle.amqp_values.proofs.Noting.{key_more}
 use Rattle.amqp_values.proofs.Known.{via, one_of, known, has_octets}
 use Rattle.amqp_values.proofs.Cases.{by_cases}
 use Rattle.amqp_values.proofs.Telling.{told_fixed, told_text8, told_text16, told_bin, told_map, told_list, told_array, told_struct32, told_bare, told_void, told_bit}

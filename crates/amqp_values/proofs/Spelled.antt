@@ -24,7 +24,7 @@ use Rattle.octet_reading.specs.Spelling.{sized, fits}
 use Rattle.amqp_values.specs.Spelling.{Told, told, told_pair, fixed_fine, bin_fine, bin_octets, item_octets, pair_octets, counted, keys_fine, deepest, deepest_pair}
 use Rattle.amqp_values.specs.Values.{item_at, pair_at, has_key, map_in, list_in, array_in, content_in, container_at, fixed_at, boolean_at, kind_at, inner_at, value_at}
 use Rattle.amqp_values.proofs.Telling.{told_fixed, told_text8, told_text16, told_bin, told_map, told_list, told_array, told_struct32, told_bare, told_void, told_bit}
-use Rattle.amqp_values.proofs.Keys.{key_more}
+use Rattle.amqp_values.proofs.Noting.{key_more}
 use Rattle.amqp_values.proofs.Known.{agrees_in, kind_agrees}
 use Rattle.amqp_values.proofs.ReadBack.{flat_told, or_parts}
 use Rattle.octet_reading.proofs.Found.{Holds, holds_bind, holds_map, holds_check, NumberIs, octet_found, count_found, octet_is, PartIs, part_found, SizedIs, sized_found, TextIs, text_found, OneIs, Goods, ManyAre, many_found}

@@ -1,5 +1,5 @@
 -- The value that octets spell, read from left to right (AMQP 0-10, "types").
-use Rattle.std.specs.Prelude.{◌≡◌, ℕ, zero, suc, ◌-◌, ◌==◌, max, nat_le, not, Bool, if◌then◌else◌, bytes_eq, List, [], length, drop, slice_index, Option, None, Some, Result, Ok, Err}
+use Rattle.std.specs.Prelude.{◌≡◌, ℕ, zero, suc, ◌-◌, ◌==◌, max, nat_le, not, Bool, if◌then◌else◌, bytes_eq, ◌≤◌, ◌<◌, List, [], length, drop, slice_index, Option, None, Some, Result, Ok, Err}
 use Rattle.std.specs.Int.{w8, w32}
 use Rattle.std.specs.BTreeMap.{is_at}
 use Rattle.std.specs.Cmp.Lexicographic.{slice_cmp}
@@ -152,3 +152,7 @@ abbrev pub Answers : {X : Type 0} → Result X ValueError → Result X ValueFaul
 Answers (Ok x) read = read ≡ Ok x
 Answers (Err (refused.Bad fault)) read = read ≡ Err fault
 Answers (Err refused.NoMemory) read = Unit {0}
+
+-- the keys of few pairs aren't noted, and those of more are
+abbrev pub SeesLong : List (List ℕ) → List (Pair Value) → Type 0
+SeesLong keys pairs = (length pairs ≤ 16 → keys ≡ []) × (16 < length pairs → SeesAll keys pairs)

@@ -4,6 +4,7 @@
 mod copy;
 mod fault;
 mod fine;
+mod keys;
 mod kind;
 mod read;
 mod size;

@@ -1,16 +1,14 @@
 //! Values out of octets.
 ghost use Rattle.std.specs.Prelude.{◌≡◌, ◌+◌, Ok, true, ◌≤◌, ◌||◌, ℕ, nat_lt, length, drop, [], ◌∷◌, ◌++◌, List, not, IfOk, OnOk};
-ghost use Rattle.std.specs.BTreeMap.{is_at};
-ghost use Rattle.std.specs.Cmp.Lexicographic.{slice_cmp};
-ghost use Rattle.std.specs.Ordering.{nat_cmp};
 ghost use Rattle.octet_reading.specs.Reading.{Gives, Within, many_at, ended, behind, Moves};
 ghost use Rattle.amqp_values.specs.Spelling.{told, spelling, is_valid};
 ghost use Rattle.amqp_values.specs.declared.value.Value.{Value};
-ghost use Rattle.amqp_values.specs.Values.{item_at, pair_at, has_text, SeesAll, map_in, list_in, array_in, content_in, container_at, fixed_at, boolean_at, inner_at, value_at, read_at, Answers};
+ghost use Rattle.amqp_values.specs.Values.{item_at, pair_at, SeesLong, map_in, list_in, array_in, content_in, container_at, fixed_at, boolean_at, inner_at, value_at, read_at, Answers};
 ghost use Rattle.octet_reading.specs.declared.flaw.Flaw.{Flaw};
 ghost use Rattle.octet_reading.specs.Reading.{check};
 
 use crate::fault::{ValueError, ValueFault};
+use crate::keys::is_new_key;
 use crate::kind::{Container, Kind, is_array_code, is_known, kind_of};
 use crate::value::{Items, Pair, Pairs, Value};
 use octet_reading::{
@@ -290,14 +288,6 @@ fn values_of(
     Ok((items, rest))
 }
 
-/// Notes a key, and tells whether it wasn't noted before.
-fn add_key(alloc: Global, seen: &mut BTreeSet<Text>, key: &Text) -> Result<bool, NoMemory>
-    ensures new { IfOk result (λ new. new ≡ not (has_text seen.old.keys key.now)) }
-    ensures added { OnOk result ((q : List ℕ) → has_text seen.new.keys q ≡ (is_at (slice_cmp nat_cmp key.now) q || has_text seen.old.keys q)) }
-{
-    Ok(seen.insert(key.copied(alloc)?)?)
-}
-
 /// A key that wasn't seen before, and an item.
 #[cycle(reading)]
 #[tactic(auto, unfolding(crate::specs::Values::pair_at))]
@@ -308,12 +298,12 @@ fn pair_of<'a>(
     seen: &mut BTreeSet<Text>,
     octets: &'a [u8],
 ) -> Result<(Pair<Value>, &'a [u8]), ReadError>
-    ensures gives { SeesAll seen.old.keys before.now → Gives (λ x. (x.0, x.1.now)) result (pair_at (value_at levels) before.now octets.now) }
-    ensures sees { SeesAll seen.old.keys before.now → IfOk result (λ x. SeesAll seen.new.keys (before.now ++ x.0 ∷ [])) }
+    ensures gives { SeesLong seen.old.keys before.now → Gives (λ x. (x.0, x.1.now)) result (pair_at (value_at levels) before.now octets.now) }
+    ensures sees { SeesLong seen.old.keys before.now → IfOk result (λ x. SeesLong seen.new.keys (before.now ++ x.0 ∷ [])) }
     ensures within { Within (λ x. x.1.now) (length octets.now) result }
 {
     let (key, rest) = text_of(alloc, SizeWidth::One, octets)?;
-    if !add_key(alloc, seen, &key)? {
+    if !is_new_key(alloc, seen, before, &key)? {
         return Err(refused(Why::RepeatedKey, octets));
     }
     let (value, rest) = item_of(alloc, levels, rest)?;

@@ -3,8 +3,8 @@ use Rattle.std.proofs.Common.{◌+◌, ◌-◌, ◌++◌, ◌∷◌, [], sym, ap
 use Rattle.std.proofs.lemmas.Result.{err_from_is_err_and}
 use Rattle.octet_reading.specs.Reading.{Fails, many_at}
 use Rattle.octet_reading.proofs.Many.{more_fails, one_fails, goes_on, is_done}
-use Rattle.amqp_values.specs.Values.{item_at, pair_at, value_at, SeesAll}
-use Rattle.amqp_values.proofs.Keys.{sees_more}
+use Rattle.amqp_values.specs.Values.{item_at, pair_at, value_at, SeesLong}
+use Rattle.amqp_values.proofs.Noting.{sees_more}
 use Rattle.amqp_values.proofs.read.+reading.Goals as goal
 
 pub items_of-returns-in_err-more_of-clause-gives : goal.items_of-returns-in_err-more_of-clause-gives
@@ -65,16 +65,16 @@ pub pairs_of-returns-in_err-pair-clause-gives : goal.pairs_of-returns-in_err-pai
 pairs_of-returns-in_err-pair-clause-gives t c =
     let p = err_from_is_err_and c.from_residual-in_err-pair.result c.from_residual-in_err-pair.ensures.1 in
     rw (p.1, p.2) (one_fails (pair_at (value_at c.args.levels)) c.in_err-pair.field-0.0 c.loop.pairs c.args.count c.loop.counter c.args.from c.loop.rest.now
-    (many_at (pair_at (value_at c.args.levels)) [] c.args.count c.args.from c.args.octets.now) c.loop-test.true c.in_ok-more_of.ensures.gives ((subst (λ front. Fails c.in_err-pair.field-0.0 (pair_at (value_at c.args.levels) front c.loop.rest.now)) c.as_slice.ensures (c.in_err-pair.ensures.gives (subst (SeesAll c.loop.seen.keys) (sym c.as_slice.ensures) c.loop.invariant.1.0)))) c.loop.invariant.0)
+    (many_at (pair_at (value_at c.args.levels)) [] c.args.count c.args.from c.args.octets.now) c.loop-test.true c.in_ok-more_of.ensures.gives ((subst (λ front. Fails c.in_err-pair.field-0.0 (pair_at (value_at c.args.levels) front c.loop.rest.now)) c.as_slice.ensures (c.in_err-pair.ensures.gives (subst (SeesLong c.loop.seen.keys) (sym c.as_slice.ensures) c.loop.invariant.1.0)))) c.loop.invariant.0)
 
 pub pairs_of-loop-preserved : goal.pairs_of-loop-preserved
 pairs_of-loop-preserved t c =
     let more = goes_on (pair_at (value_at c.args.levels)) c.loop.pairs c.args.count c.loop.counter c.args.from c.loop.rest.now c.in_ok-pair.pair c.in_ok-pair.after.now
-    (many_at (pair_at (value_at c.args.levels)) [] c.args.count c.args.from c.args.octets.now) c.loop-test.true c.in_ok-more_of.ensures.gives (ap (λ front. pair_at (value_at c.args.levels) front c.loop.rest.now) (sym c.as_slice.ensures) ∙ c.in_ok-pair.ensures.gives (subst (SeesAll c.loop.seen.keys) (sym c.as_slice.ensures) c.loop.invariant.1.0)) c.loop.invariant.0 in (
+    (many_at (pair_at (value_at c.args.levels)) [] c.args.count c.args.from c.args.octets.now) c.loop-test.true c.in_ok-more_of.ensures.gives (ap (λ front. pair_at (value_at c.args.levels) front c.loop.rest.now) (sym c.as_slice.ensures) ∙ c.in_ok-pair.ensures.gives (subst (SeesLong c.loop.seen.keys) (sym c.as_slice.ensures) c.loop.invariant.1.0)) c.loop.invariant.0 in (
       ap (λ xs. many_at (pair_at (value_at c.args.levels)) xs (c.args.count - (c.loop.counter + 1)) c.args.from c.in_ok-pair.after.now) c.in_ok-push.ensures.ok ∙ more,
       (
-        subst (SeesAll c.pair_of.new.seen.keys) (ap (λ pairs. pairs ++ c.in_ok-pair.pair ∷ []) c.as_slice.ensures ∙ sym c.in_ok-push.ensures.ok)
-            (c.in_ok-pair.ensures.sees (subst (SeesAll c.loop.seen.keys) (sym c.as_slice.ensures) c.loop.invariant.1.0)),
+        subst (SeesLong c.pair_of.new.seen.keys) (ap (λ pairs. pairs ++ c.in_ok-pair.pair ∷ []) c.as_slice.ensures ∙ sym c.in_ok-push.ensures.ok)
+            (c.in_ok-pair.ensures.sees (subst (SeesLong c.loop.seen.keys) (sym c.as_slice.ensures) c.loop.invariant.1.0)),
         omega (arith, c.in_ok-pair.ensures.within, c.loop.invariant.1.1),
       ),
     )
@@ -84,5 +84,4 @@ pairs_of-returns-clause-gives t c =
     is_done (pair_at (value_at c.args.levels)) c.loop.pairs c.args.count c.loop.counter c.args.from c.loop.rest.now (many_at (pair_at (value_at c.args.levels)) [] c.args.count c.args.from c.args.octets.now) c.loop-test.false c.loop.invariant.0
 
 pub pair_of-returns-clause-sees : goal.pair_of-returns-clause-sees
-pair_of-returns-clause-sees t c = λ all.
-    sees_more c.args.seen.now.keys c.add_key.new.seen.keys c.args.before.now c.in_ok-key.key c.in_ok-value.value all c.in_ok-add_key.ensures.added
+pair_of-returns-clause-sees t c = λ all. c.in_ok-is_new_key.ensures.sees all c.in_ok-value.value

@@ -1,7 +1,7 @@
 -- A container goes one level down; within a level each call is of a lower rank. Items so far, and those to come.
 use Rattle.std.proofs.Common.{◌≡◌, ◌≤◌, [], ◌-◌, ◌*◌, ◌+◌, length}
 use Rattle.octet_reading.specs.Reading.{many_at}
-use Rattle.amqp_values.specs.Values.{item_at, pair_at, value_at, SeesAll}
+use Rattle.amqp_values.specs.Values.{item_at, pair_at, value_at, SeesLong}
 use Rattle.amqp_values.proofs.read.+reading.Given as goal
 
 abbrev pub decreases-container_of : goal.decreases-container_of
@@ -50,4 +50,4 @@ invariant-values_of-loop l =
 abbrev pub invariant-pairs_of-loop : goal.invariant-pairs_of-loop
 invariant-pairs_of-loop l =
     (many_at (pair_at (value_at l.levels)) l.pairs (l.count - l.counter) l.from l.rest ≡ many_at (pair_at (value_at l.levels)) [] l.count l.from l.octets)
-    × (SeesAll l.seen.keys l.pairs × (length l.rest ≤ length l.octets))
+    × (SeesLong l.seen.keys l.pairs × (length l.rest ≤ length l.octets))

@@ -1,31 +1,24 @@
-//! Octets out of commands.
-ghost use Rattle.std.specs.Prelude.{◌≡◌, ◌++◌, true, OnOk};
-ghost use Rattle.std.specs.List.{list_all};
-ghost use Rattle.amqp_packed.specs.Spelling.{is_fine};
-ghost use Rattle.amqp_commands.specs.Kinds.{command_class, command_code};
+//! The fields of commands, lent.
+ghost use Rattle.std.specs.Prelude.{◌≡◌, ◌≤◌, length, map, IfOk};
+ghost use Rattle.amqp_packed.specs.Lent.{lent};
 ghost use Rattle.amqp_commands.specs.Terms.{command_fields};
-ghost use Rattle.amqp_commands.specs.Units.{command_head, command_octets};
 
-use crate::commands::CommandKind;
-use amqp_packed::{FieldRef, put_fields};
+use crate::refs::refs_of;
+use amqp_packed::FieldRef;
 use amqp_terms::Command;
 use amqp_values::NoMemory;
-use octet_reading::put;
+use std::alloc::Global;
 
-/// Puts the segment of a command whose fields have spellings. Without memory a part of it may stand there.
-pub(crate) fn put_command(out: &mut Vec<u8>, sync: bool, command: &Command) -> Result<(), NoMemory>
-    requires { list_all is_fine (command_fields command.now) ≡ true }
-    ensures { OnOk result (out.new.items ≡ out.old.items ++ command_octets sync command.now) }
+/// The fields of a command in the order of its table, absent ones too; none of an unknown one.
+pub fn command_refs(alloc: Global, command: &Command) -> Result<Vec<FieldRef<'_>>, NoMemory>
+    ensures fields { IfOk result (λ refs. map lent refs.items ≡ command_fields command.now) }
+    ensures few { IfOk result (λ refs. length refs.items ≤ 16) }
 {
     match command {
-        Command::ExecutionSync => {
-            put_command_head(out, CommandKind::ExecutionSync, sync)?;
-            put_fields(out, &[])
-        }
+        Command::ExecutionSync => { refs_of(alloc, &[]) }
         Command::ExecutionResult { command_id, value } => {
-            put_command_head(out, CommandKind::ExecutionResult, sync)?;
-            put_fields(
-                out,
+            refs_of(
+                alloc,
                 &[FieldRef::of_u32(command_id), FieldRef::of_struct32(value)],
             )
         }
@@ -38,9 +31,8 @@ pub(crate) fn put_command(out: &mut Vec<u8>, sync: bool, command: &Command) -> R
             description,
             error_info,
         } => {
-            put_command_head(out, CommandKind::ExecutionException, sync)?;
-            put_fields(
-                out,
+            refs_of(
+                alloc,
                 &[
                     FieldRef::of_u16(error_code),
                     FieldRef::of_u32(command_id),
@@ -57,9 +49,8 @@ pub(crate) fn put_command(out: &mut Vec<u8>, sync: bool, command: &Command) -> R
             accept_mode,
             acquire_mode,
         } => {
-            put_command_head(out, CommandKind::MessageTransfer, sync)?;
-            put_fields(
-                out,
+            refs_of(
+                alloc,
                 &[
                     FieldRef::of_str8(destination),
                     FieldRef::of_u8(accept_mode),
@@ -68,17 +59,15 @@ pub(crate) fn put_command(out: &mut Vec<u8>, sync: bool, command: &Command) -> R
             )
         }
         Command::MessageAccept { transfers } => {
-            put_command_head(out, CommandKind::MessageAccept, sync)?;
-            put_fields(out, &[FieldRef::of_ranges(transfers)])
+            refs_of(alloc, &[FieldRef::of_ranges(transfers)])
         }
         Command::MessageReject {
             transfers,
             code,
             text,
         } => {
-            put_command_head(out, CommandKind::MessageReject, sync)?;
-            put_fields(
-                out,
+            refs_of(
+                alloc,
                 &[
                     FieldRef::of_ranges(transfers),
                     FieldRef::of_u16(code),
@@ -90,9 +79,8 @@ pub(crate) fn put_command(out: &mut Vec<u8>, sync: bool, command: &Command) -> R
             transfers,
             set_redelivered,
         } => {
-            put_command_head(out, CommandKind::MessageRelease, sync)?;
-            put_fields(
-                out,
+            refs_of(
+                alloc,
                 &[
                     FieldRef::of_ranges(transfers),
                     FieldRef::of_bit(*set_redelivered),
@@ -100,8 +88,7 @@ pub(crate) fn put_command(out: &mut Vec<u8>, sync: bool, command: &Command) -> R
             )
         }
         Command::MessageAcquire { transfers } => {
-            put_command_head(out, CommandKind::MessageAcquire, sync)?;
-            put_fields(out, &[FieldRef::of_ranges(transfers)])
+            refs_of(alloc, &[FieldRef::of_ranges(transfers)])
         }
         Command::MessageSubscribe {
             queue,
@@ -113,9 +100,8 @@ pub(crate) fn put_command(out: &mut Vec<u8>, sync: bool, command: &Command) -> R
             resume_ttl,
             arguments,
         } => {
-            put_command_head(out, CommandKind::MessageSubscribe, sync)?;
-            put_fields(
-                out,
+            refs_of(
+                alloc,
                 &[
                     FieldRef::of_str8(queue),
                     FieldRef::of_str8(destination),
@@ -129,16 +115,14 @@ pub(crate) fn put_command(out: &mut Vec<u8>, sync: bool, command: &Command) -> R
             )
         }
         Command::MessageCancel { destination } => {
-            put_command_head(out, CommandKind::MessageCancel, sync)?;
-            put_fields(out, &[FieldRef::of_str8(destination)])
+            refs_of(alloc, &[FieldRef::of_str8(destination)])
         }
         Command::MessageSetFlowMode {
             destination,
             flow_mode,
         } => {
-            put_command_head(out, CommandKind::MessageSetFlowMode, sync)?;
-            put_fields(
-                out,
+            refs_of(
+                alloc,
                 &[FieldRef::of_str8(destination), FieldRef::of_u8(flow_mode)],
             )
         }
@@ -147,9 +131,8 @@ pub(crate) fn put_command(out: &mut Vec<u8>, sync: bool, command: &Command) -> R
             unit,
             value,
         } => {
-            put_command_head(out, CommandKind::MessageFlow, sync)?;
-            put_fields(
-                out,
+            refs_of(
+                alloc,
                 &[
                     FieldRef::of_str8(destination),
                     FieldRef::of_u8(unit),
@@ -158,33 +141,18 @@ pub(crate) fn put_command(out: &mut Vec<u8>, sync: bool, command: &Command) -> R
             )
         }
         Command::MessageFlush { destination } => {
-            put_command_head(out, CommandKind::MessageFlush, sync)?;
-            put_fields(out, &[FieldRef::of_str8(destination)])
+            refs_of(alloc, &[FieldRef::of_str8(destination)])
         }
         Command::MessageStop { destination } => {
-            put_command_head(out, CommandKind::MessageStop, sync)?;
-            put_fields(out, &[FieldRef::of_str8(destination)])
+            refs_of(alloc, &[FieldRef::of_str8(destination)])
         }
-        Command::TxSelect => {
-            put_command_head(out, CommandKind::TxSelect, sync)?;
-            put_fields(out, &[])
-        }
-        Command::TxCommit => {
-            put_command_head(out, CommandKind::TxCommit, sync)?;
-            put_fields(out, &[])
-        }
-        Command::TxRollback => {
-            put_command_head(out, CommandKind::TxRollback, sync)?;
-            put_fields(out, &[])
-        }
-        Command::DtxSelect => {
-            put_command_head(out, CommandKind::DtxSelect, sync)?;
-            put_fields(out, &[])
-        }
+        Command::TxSelect => { refs_of(alloc, &[]) }
+        Command::TxCommit => { refs_of(alloc, &[]) }
+        Command::TxRollback => { refs_of(alloc, &[]) }
+        Command::DtxSelect => { refs_of(alloc, &[]) }
         Command::DtxStart { xid, join, resume } => {
-            put_command_head(out, CommandKind::DtxStart, sync)?;
-            put_fields(
-                out,
+            refs_of(
+                alloc,
                 &[
                     FieldRef::of_xid(xid),
                     FieldRef::of_bit(*join),
@@ -193,9 +161,8 @@ pub(crate) fn put_command(out: &mut Vec<u8>, sync: bool, command: &Command) -> R
             )
         }
         Command::DtxEnd { xid, fail, suspend } => {
-            put_command_head(out, CommandKind::DtxEnd, sync)?;
-            put_fields(
-                out,
+            refs_of(
+                alloc,
                 &[
                     FieldRef::of_xid(xid),
                     FieldRef::of_bit(*fail),
@@ -204,32 +171,18 @@ pub(crate) fn put_command(out: &mut Vec<u8>, sync: bool, command: &Command) -> R
             )
         }
         Command::DtxCommit { xid, one_phase } => {
-            put_command_head(out, CommandKind::DtxCommit, sync)?;
-            put_fields(out, &[FieldRef::of_xid(xid), FieldRef::of_bit(*one_phase)])
+            refs_of(
+                alloc,
+                &[FieldRef::of_xid(xid), FieldRef::of_bit(*one_phase)],
+            )
         }
-        Command::DtxForget { xid } => {
-            put_command_head(out, CommandKind::DtxForget, sync)?;
-            put_fields(out, &[FieldRef::of_xid(xid)])
-        }
-        Command::DtxGetTimeout { xid } => {
-            put_command_head(out, CommandKind::DtxGetTimeout, sync)?;
-            put_fields(out, &[FieldRef::of_xid(xid)])
-        }
-        Command::DtxPrepare { xid } => {
-            put_command_head(out, CommandKind::DtxPrepare, sync)?;
-            put_fields(out, &[FieldRef::of_xid(xid)])
-        }
-        Command::DtxRollback { xid } => {
-            put_command_head(out, CommandKind::DtxRollback, sync)?;
-            put_fields(out, &[FieldRef::of_xid(xid)])
-        }
-        Command::DtxRecover => {
-            put_command_head(out, CommandKind::DtxRecover, sync)?;
-            put_fields(out, &[])
-        }
+        Command::DtxForget { xid } => { refs_of(alloc, &[FieldRef::of_xid(xid)]) }
+        Command::DtxGetTimeout { xid } => { refs_of(alloc, &[FieldRef::of_xid(xid)]) }
+        Command::DtxPrepare { xid } => { refs_of(alloc, &[FieldRef::of_xid(xid)]) }
+        Command::DtxRollback { xid } => { refs_of(alloc, &[FieldRef::of_xid(xid)]) }
+        Command::DtxRecover => { refs_of(alloc, &[]) }
         Command::DtxSetTimeout { xid, timeout } => {
-            put_command_head(out, CommandKind::DtxSetTimeout, sync)?;
-            put_fields(out, &[FieldRef::of_xid(xid), FieldRef::of_u32(timeout)])
+            refs_of(alloc, &[FieldRef::of_xid(xid), FieldRef::of_u32(timeout)])
         }
         Command::ExchangeDeclare {
             exchange,
@@ -240,9 +193,8 @@ pub(crate) fn put_command(out: &mut Vec<u8>, sync: bool, command: &Command) -> R
             auto_delete,
             arguments,
         } => {
-            put_command_head(out, CommandKind::ExchangeDeclare, sync)?;
-            put_fields(
-                out,
+            refs_of(
+                alloc,
                 &[
                     FieldRef::of_str8(exchange),
                     FieldRef::of_str8(kind),
@@ -258,25 +210,20 @@ pub(crate) fn put_command(out: &mut Vec<u8>, sync: bool, command: &Command) -> R
             exchange,
             if_unused,
         } => {
-            put_command_head(out, CommandKind::ExchangeDelete, sync)?;
-            put_fields(
-                out,
+            refs_of(
+                alloc,
                 &[FieldRef::of_str8(exchange), FieldRef::of_bit(*if_unused)],
             )
         }
-        Command::ExchangeQuery { name } => {
-            put_command_head(out, CommandKind::ExchangeQuery, sync)?;
-            put_fields(out, &[FieldRef::of_str8(name)])
-        }
+        Command::ExchangeQuery { name } => { refs_of(alloc, &[FieldRef::of_str8(name)]) }
         Command::ExchangeBind {
             queue,
             exchange,
             binding_key,
             arguments,
         } => {
-            put_command_head(out, CommandKind::ExchangeBind, sync)?;
-            put_fields(
-                out,
+            refs_of(
+                alloc,
                 &[
                     FieldRef::of_str8(queue),
                     FieldRef::of_str8(exchange),
@@ -290,9 +237,8 @@ pub(crate) fn put_command(out: &mut Vec<u8>, sync: bool, command: &Command) -> R
             exchange,
             binding_key,
         } => {
-            put_command_head(out, CommandKind::ExchangeUnbind, sync)?;
-            put_fields(
-                out,
+            refs_of(
+                alloc,
                 &[
                     FieldRef::of_str8(queue),
                     FieldRef::of_str8(exchange),
@@ -306,9 +252,8 @@ pub(crate) fn put_command(out: &mut Vec<u8>, sync: bool, command: &Command) -> R
             binding_key,
             arguments,
         } => {
-            put_command_head(out, CommandKind::ExchangeBound, sync)?;
-            put_fields(
-                out,
+            refs_of(
+                alloc,
                 &[
                     FieldRef::of_str8(exchange),
                     FieldRef::of_str8(queue),
@@ -326,9 +271,8 @@ pub(crate) fn put_command(out: &mut Vec<u8>, sync: bool, command: &Command) -> R
             auto_delete,
             arguments,
         } => {
-            put_command_head(out, CommandKind::QueueDeclare, sync)?;
-            put_fields(
-                out,
+            refs_of(
+                alloc,
                 &[
                     FieldRef::of_str8(queue),
                     FieldRef::of_str8(alternate_exchange),
@@ -345,9 +289,8 @@ pub(crate) fn put_command(out: &mut Vec<u8>, sync: bool, command: &Command) -> R
             if_unused,
             if_empty,
         } => {
-            put_command_head(out, CommandKind::QueueDelete, sync)?;
-            put_fields(
-                out,
+            refs_of(
+                alloc,
                 &[
                     FieldRef::of_str8(queue),
                     FieldRef::of_bit(*if_unused),
@@ -355,31 +298,12 @@ pub(crate) fn put_command(out: &mut Vec<u8>, sync: bool, command: &Command) -> R
                 ],
             )
         }
-        Command::QueuePurge { queue } => {
-            put_command_head(out, CommandKind::QueuePurge, sync)?;
-            put_fields(out, &[FieldRef::of_str8(queue)])
-        }
-        Command::QueueQuery { queue } => {
-            put_command_head(out, CommandKind::QueueQuery, sync)?;
-            put_fields(out, &[FieldRef::of_str8(queue)])
-        }
-        Command::Unknown { class, code, rest } => {
-            put_head(out, *class, *code, sync)?;
-            put(out, rest.as_slice())
-        }
+        Command::QueuePurge { queue } => { refs_of(alloc, &[FieldRef::of_str8(queue)]) }
+        Command::QueueQuery { queue } => { refs_of(alloc, &[FieldRef::of_str8(queue)]) }
+        Command::Unknown {
+            class: _,
+            code: _,
+            rest: _,
+        } => refs_of(alloc, &[]),
     }
-}
-
-/// Puts class, code and session header of a kind.
-fn put_command_head(out: &mut Vec<u8>, kind: CommandKind, sync: bool) -> Result<(), NoMemory>
-    ensures { OnOk result (out.new.items ≡ out.old.items ++ command_head (command_class kind) (command_code kind) sync) }
-{
-    put_head(out, kind.class(), kind.code(), sync)
-}
-
-/// Puts class, code and session header.
-fn put_head(out: &mut Vec<u8>, class: u8, code: u8, sync: bool) -> Result<(), NoMemory>
-    ensures { OnOk result (out.new.items ≡ out.old.items ++ command_head class code sync) }
-{
-    put(out, &[class, code, 1, u8::from(sync)])
 }
