@@ -5,6 +5,8 @@ pub(crate) const HELP: &str = "\
 usage: amqp_broker WORDS..
 
   replay       runs the broker over a written trace, from standard input to standard output
+  show         prints a line for each unit of the octets of one direction of a connection
+  reframe N    lays the same assemblies in frames of at most N octets, 4096 to 65535
   --help       shows these lines
   --version    shows the program's name and version
 

@@ -3,6 +3,8 @@
 
 mod help;
 #[cfg(test)]
+mod octet_rows;
+#[cfg(test)]
 mod rows;
 mod streams;
 

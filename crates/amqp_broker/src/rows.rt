@@ -8,7 +8,21 @@ use trace_tool::{Status, run_tool};
 
 /// The status of a run over the text, where it wrote what it should.
 fn ran(alloc: Global, word: &str, text: &str, wanted: &str) -> Result<Option<Status>, Fail> {
-    let octets = Vec::from_slice(alloc, text.as_bytes())?;
+    ran_over(
+        alloc,
+        word,
+        Vec::from_slice(alloc, text.as_bytes())?,
+        wanted,
+    )
+}
+
+/// The same over octets.
+fn ran_over(
+    alloc: Global,
+    word: &str,
+    octets: Vec<u8>,
+    wanted: &str,
+) -> Result<Option<Status>, Fail> {
     let mut input = MemSource::new(octets, 7, Calls::from_vec(Vec::new(alloc)));
     let mut out = MemSink::new(alloc, 5, Calls::from_vec(Vec::new(alloc)));
     let mut words = Vec::new(alloc);
@@ -116,6 +130,36 @@ fn a_65th_channel(rt: HostRuntime) -> Result<(), Fail> {
         "replay",
         "ready 1\nbytes 1 0f000013000000400000000002010100000173\n",
         "to 1 0f0000220000000000000000010b030001f50f546f6f4d616e794368616e6e656c73\nrefused 1 0 - - TooManyChannels\nend\n",
+    )?;
+    assert_eq!(rt; status, Some(Status::Ok));
+    Ok(())
+}
+
+/// Puts a `bytes` line with a frame of 65,535 octets of a body.
+fn put_body_line(text: &mut Vec<u8>, head: &str) -> Result<(), Fail> {
+    text.extend_from_slice(head.as_bytes())?;
+    for _ in 0..131_046 {
+        text.push(b'0')?;
+    }
+    text.push(b'\n')?;
+    Ok(())
+}
+
+// A body that passes 16,777,216 octets with its 257th frame.
+#[test]
+fn too_large(rt: HostRuntime) -> Result<(), Fail> {
+    let alloc = rt.alloc();
+    let mut text = Vec::new(alloc);
+    text.extend_from_slice(b"ready 1\nbytes 1 0b0100120001000000000000040101000000\n")?;
+    put_body_line(&mut text, "bytes 1 0603ffff0001000000000000")?;
+    for _ in 0..256 {
+        put_body_line(&mut text, "bytes 1 0403ffff0001000000000000")?;
+    }
+    let status = ran_over(
+        alloc,
+        "replay",
+        text,
+        "to 1 0f00001b0000000000000000010b030001f508546f6f4c61726765\nrefused 1 16776978 - - TooLarge\nend\n",
     )?;
     assert_eq!(rt; status, Some(Status::Ok));
     Ok(())

@@ -1,10 +1,16 @@
 -- What a tool's words ask for, and what its status says of the run.
-use Rattle.std.specs.Prelude.{◌≡◌, ◌≤◌, ℕ, Bool, false, List, [], ◌∷◌, codes, bytes_eq, string_bytes, Option, IfSome, String}
+use Rattle.std.specs.Prelude.{◌≡◌, ◌≤◌, ℕ, nat_le, Bool, false, if◌then◌else◌, List, [], ◌∷◌, codes, bytes_eq, string_bytes, Option, None, Some, IfSome, String}
 use Rattle.std.specs.Global.{Global}
 use Rattle.outside_core.specs.Faults.{Rose}
 use Rattle.line_runs.specs.Run.{Reports}
 use Rattle.line_runs.specs.declared.run.Ended.{Ended}
 use Rattle.line_runs.specs.declared.run.Ended.TheVariants as ended
+use Rattle.octet_tools.specs.declared.tool.OctetTool.{OctetTool}
+use Rattle.octet_tools.specs.declared.tool.OctetTool.TheVariants as tool
+use Rattle.octet_tools.specs.declared.run.OctetsEnded.{OctetsEnded}
+use Rattle.octet_tools.specs.declared.run.OctetsEnded.TheVariants as octets
+use Rattle.octet_tools.specs.Run.{ReportsTold}
+use Rattle.trace_words.specs.Numbers.{number_in}
 use Rattle.trace_tool.specs.Replay.{line_step, past_lines, closing_of}
 use Rattle.trace_tool.specs.declared.status.Status.{Status}
 use Rattle.trace_tool.specs.declared.status.Status.TheVariants as status
@@ -19,6 +25,15 @@ status_of ended.WriteFault = status.WriteFault
 status_of ended.NoMemory = status.NoMemory
 status_of ended.InputTooLong = status.InputTooLong
 
+-- and of a run over octets
+abbrev pub status_of_octets : OctetsEnded → Status
+status_of_octets octets.Ok = status.Ok
+status_of_octets (octets.Malformed at why) = status.Malformed at why
+status_of_octets octets.ReadFault = status.ReadFault
+status_of_octets octets.WriteFault = status.WriteFault
+status_of_octets octets.NoMemory = status.NoMemory
+status_of_octets octets.InputTooLong = status.InputTooLong
+
 -- the number that a process ends with
 abbrev pub code_of : Status → ℕ
 code_of status.Ok = 0
@@ -28,12 +43,30 @@ code_of status.ReadFault = 3
 code_of status.WriteFault = 4
 code_of status.NoMemory = 5
 code_of status.InputTooLong = 8
+code_of (status.Malformed at why) = 9
 code_of (status.Unbuilt line) = 10
 
 -- the words are those of `replay`
 abbrev pub is_replay : List (String Global) → Bool
 is_replay (word ∷ []) = bytes_eq (string_bytes word) (codes "replay")
 is_replay words = false
+
+-- the largest frame of `reframe`: from 4,096 to 65,535
+abbrev pub frame_limit : Option ℕ → Option OctetTool
+frame_limit None = None
+frame_limit (Some n) = if nat_le 4096 n then Some (tool.Reframe n) else None
+
+-- the words are those of `show`, or of `reframe N`
+abbrev pub octet_tool : List (String Global) → Option OctetTool
+octet_tool (word ∷ []) = if bytes_eq (string_bytes word) (codes "show") then Some tool.Show else None
+octet_tool (word ∷ number ∷ []) = if bytes_eq (string_bytes word) (codes "reframe") then frame_limit (number_in 65535 (string_bytes number)) else None
+octet_tool words = None
+
+-- the run ended so, and wrote what the definitions give for the octets
+pub record OctetsTold (t : OctetTool) (left remains held holds : Option (List ℕ)) (answer : Status) : Type 0 where
+  pub ended_as : OctetsEnded
+  pub status_is : answer ≡ status_of_octets ended_as
+  pub reports : ReportsTold t left remains held holds ended_as
 
 -- the run ended so, and wrote what the broker's definitions give for the input
 pub record Replays (left remains held holds : Option (List ℕ)) (answer : Status) : Type 0 where
@@ -50,6 +83,7 @@ ReadCause before now (status.BadTrace line why) = before ≤ now
 ReadCause before now status.WriteFault = before ≤ now
 ReadCause before now status.NoMemory = before ≤ now
 ReadCause before now status.InputTooLong = before ≤ now
+ReadCause before now (status.Malformed at why) = before ≤ now
 ReadCause before now (status.Unbuilt line) = before ≤ now
 
 -- the sink's count never falls, and rose where a write failed
@@ -61,4 +95,5 @@ WriteCause before now (status.BadTrace line why) = before ≤ now
 WriteCause before now status.ReadFault = before ≤ now
 WriteCause before now status.NoMemory = before ≤ now
 WriteCause before now status.InputTooLong = before ≤ now
+WriteCause before now (status.Malformed at why) = before ≤ now
 WriteCause before now (status.Unbuilt line) = before ≤ now

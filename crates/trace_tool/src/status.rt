@@ -1,8 +1,10 @@
 //! How a tool ended.
 ghost use Rattle.std.specs.Prelude.{◌≡◌};
-ghost use Rattle.trace_tool.specs.Tool.{status_of, code_of};
+ghost use Rattle.trace_tool.specs.Tool.{status_of, status_of_octets, code_of};
 
 use line_runs::{Ended, TraceWhy};
+use octet_reading::Why;
+use octet_tools::OctetsEnded;
 use std::fmt;
 
 /// How a tool ended, with the number that the process ends with.
@@ -22,6 +24,9 @@ pub enum Status {
     NoMemory,
     /// 8: the input has more than 2^30 octets.
     InputTooLong,
+    /// 9: the first fault of octets that are no frames or no units, at the place of the frame, or of the first
+    /// frame of the unit's assembly. Places count the input's octets from 0.
+    Malformed { at: u64, why: Why },
     /// 10: the first line that asks for what isn't built yet.
     Unbuilt { line: u64 },
 }
@@ -42,6 +47,20 @@ impl Status {
         }
     }
 
+    /// The status of a run over octets.
+    pub(crate) fn of_octets(ended: OctetsEnded) -> Status
+        ensures { result ≡ status_of_octets ended }
+    {
+        match ended {
+            OctetsEnded::Ok => Status::Ok,
+            OctetsEnded::Malformed { at, why } => Status::Malformed { at, why },
+            OctetsEnded::ReadFault => Status::ReadFault,
+            OctetsEnded::WriteFault => Status::WriteFault,
+            OctetsEnded::NoMemory => Status::NoMemory,
+            OctetsEnded::InputTooLong => Status::InputTooLong,
+        }
+    }
+
     /// The number that the process ends with.
     pub fn code(self) -> u8
         ensures { result ≡ code_of self }
@@ -54,6 +73,7 @@ impl Status {
             Status::WriteFault => 4,
             Status::NoMemory => 5,
             Status::InputTooLong => 8,
+            Status::Malformed { at: _, why: _ } => 9,
             Status::Unbuilt { line: _ } => 10,
         }
     }
@@ -69,6 +89,7 @@ impl fmt::Display for Status {
             Status::WriteFault => write!(f, "WriteFault"),
             Status::NoMemory => write!(f, "NoMemory"),
             Status::InputTooLong => write!(f, "InputTooLong"),
+            Status::Malformed { at, why } => write!(f, "Malformed {at} {why:?}"),
             Status::Unbuilt { line } => write!(f, "Unbuilt {line}"),
         }
     }

@@ -1,0 +1,5 @@
+pub mod Showing
+pub mod Coursing
+pub mod Taking
+pub mod Running
+pub mod Reframing

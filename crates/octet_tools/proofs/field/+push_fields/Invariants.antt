@@ -1,0 +1,6 @@
+-- Down the list.
+use Rattle.std.proofs.Common.{length}
+use Rattle.octet_tools.proofs.field.+push_fields.Given as goal
+
+abbrev pub decreases-push_fields : goal.decreases-push_fields
+decreases-push_fields l = length l.fields.now

@@ -1,0 +1,77 @@
+-- The names of controls, commands and structs and of their fields (AMQP 0-10): the name first, then those of the fields in order, parted by blanks.
+use Rattle.std.specs.Prelude.{ℕ, List, codes}
+use Rattle.amqp_commands.specs.declared.controls.ControlKind.{ControlKind}
+use Rattle.amqp_commands.specs.declared.controls.ControlKind.TheVariants as ck
+use Rattle.amqp_commands.specs.declared.commands.CommandKind.{CommandKind}
+use Rattle.amqp_commands.specs.declared.commands.CommandKind.TheVariants as mk
+
+abbrev pub control_words : ControlKind → List ℕ
+control_words ck.ConnectionStart = codes "connection.start server-properties mechanisms locales"
+control_words ck.ConnectionStartOk = codes "connection.start-ok client-properties mechanism response locale"
+control_words ck.ConnectionSecure = codes "connection.secure challenge"
+control_words ck.ConnectionSecureOk = codes "connection.secure-ok response"
+control_words ck.ConnectionTune = codes "connection.tune channel-max max-frame-size heartbeat-min heartbeat-max"
+control_words ck.ConnectionTuneOk = codes "connection.tune-ok channel-max max-frame-size heartbeat"
+control_words ck.ConnectionOpen = codes "connection.open virtual-host capabilities insist"
+control_words ck.ConnectionOpenOk = codes "connection.open-ok known-hosts"
+control_words ck.ConnectionHeartbeat = codes "connection.heartbeat"
+control_words ck.ConnectionClose = codes "connection.close reply-code reply-text"
+control_words ck.ConnectionCloseOk = codes "connection.close-ok"
+control_words ck.SessionAttach = codes "session.attach name force"
+control_words ck.SessionAttached = codes "session.attached name"
+control_words ck.SessionDetach = codes "session.detach name"
+control_words ck.SessionDetached = codes "session.detached name code"
+control_words ck.SessionRequestTimeout = codes "session.request-timeout timeout"
+control_words ck.SessionTimeout = codes "session.timeout timeout"
+control_words ck.SessionCommandPoint = codes "session.command-point command-id command-offset"
+control_words ck.SessionExpected = codes "session.expected commands fragments"
+control_words ck.SessionConfirmed = codes "session.confirmed commands fragments"
+control_words ck.SessionCompleted = codes "session.completed commands timely-reply"
+control_words ck.SessionKnownCompleted = codes "session.known-completed commands"
+control_words ck.SessionFlush = codes "session.flush expected confirmed completed"
+control_words ck.SessionGap = codes "session.gap commands"
+
+abbrev pub command_words : CommandKind → List ℕ
+command_words mk.ExecutionSync = codes "execution.sync"
+command_words mk.ExecutionResult = codes "execution.result command-id value"
+command_words mk.ExecutionException = codes "execution.exception error-code command-id class-code command-code field-index description error-info"
+command_words mk.MessageTransfer = codes "message.transfer destination accept-mode acquire-mode"
+command_words mk.MessageAccept = codes "message.accept transfers"
+command_words mk.MessageReject = codes "message.reject transfers code text"
+command_words mk.MessageRelease = codes "message.release transfers set-redelivered"
+command_words mk.MessageAcquire = codes "message.acquire transfers"
+command_words mk.MessageSubscribe = codes "message.subscribe queue destination accept-mode acquire-mode exclusive resume-id resume-ttl arguments"
+command_words mk.MessageCancel = codes "message.cancel destination"
+command_words mk.MessageSetFlowMode = codes "message.set-flow-mode destination flow-mode"
+command_words mk.MessageFlow = codes "message.flow destination unit value"
+command_words mk.MessageFlush = codes "message.flush destination"
+command_words mk.MessageStop = codes "message.stop destination"
+command_words mk.TxSelect = codes "tx.select"
+command_words mk.TxCommit = codes "tx.commit"
+command_words mk.TxRollback = codes "tx.rollback"
+command_words mk.DtxSelect = codes "dtx.select"
+command_words mk.DtxStart = codes "dtx.start xid join resume"
+command_words mk.DtxEnd = codes "dtx.end xid fail suspend"
+command_words mk.DtxCommit = codes "dtx.commit xid one-phase"
+command_words mk.DtxForget = codes "dtx.forget xid"
+command_words mk.DtxGetTimeout = codes "dtx.get-timeout xid"
+command_words mk.DtxPrepare = codes "dtx.prepare xid"
+command_words mk.DtxRollback = codes "dtx.rollback xid"
+command_words mk.DtxRecover = codes "dtx.recover"
+command_words mk.DtxSetTimeout = codes "dtx.set-timeout xid timeout"
+command_words mk.ExchangeDeclare = codes "exchange.declare exchange type alternate-exchange passive durable auto-delete arguments"
+command_words mk.ExchangeDelete = codes "exchange.delete exchange if-unused"
+command_words mk.ExchangeQuery = codes "exchange.query name"
+command_words mk.ExchangeBind = codes "exchange.bind queue exchange binding-key arguments"
+command_words mk.ExchangeUnbind = codes "exchange.unbind queue exchange binding-key"
+command_words mk.ExchangeBound = codes "exchange.bound exchange queue binding-key arguments"
+command_words mk.QueueDeclare = codes "queue.declare queue alternate-exchange passive durable exclusive auto-delete arguments"
+command_words mk.QueueDelete = codes "queue.delete queue if-unused if-empty"
+command_words mk.QueuePurge = codes "queue.purge queue"
+command_words mk.QueueQuery = codes "queue.query queue"
+
+abbrev pub delivery_words : List ℕ
+delivery_words = codes "delivery-properties discard-unroutable immediate redelivered priority delivery-mode ttl timestamp expiration exchange routing-key resume-id resume-ttl"
+
+abbrev pub message_words : List ℕ
+message_words = codes "message-properties content-length message-id correlation-id reply-to content-type content-encoding user-id app-id application-headers"
