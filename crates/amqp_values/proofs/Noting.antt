@@ -36,11 +36,11 @@ sees_more old new pairs key value all added = λ text.
     ∙ ap (λ b. b || bytes_eq key text) (all text) ∙ sym (key_more pairs (record { key = key; value = value }) text)
 
 -- few pairs and one more
-pub sees_few : (keys : List (List ℕ)) (pairs : List (Pair Value)) (p : Pair Value) → length pairs < 16 → SeesLong keys pairs → SeesLong keys (pairs ++ p ∷ [])
+pub sees_few : (keys : List (List ℕ)) (pairs : List (Pair Value)) (p : Pair Value) → length pairs < 64 → SeesLong keys pairs → SeesLong keys (pairs ++ p ∷ [])
 sees_few keys pairs p lt s = (λ le. s.0 (omega (arith, lt)), λ more. absurd (omega (arith, more, lt, length-append pairs (p ∷ []))))
 
 -- many pairs and one more
-pub sees_many : (old new : List (List ℕ)) (pairs : List (Pair Value)) (key : List ℕ) (value : Value) → 16 ≤ length pairs → SeesAll old pairs
+pub sees_many : (old new : List (List ℕ)) (pairs : List (Pair Value)) (key : List ℕ) (value : Value) → 64 ≤ length pairs → SeesAll old pairs
     → ((q : List ℕ) → has_text new q ≡ (is_at (slice_cmp nat_cmp key) q || has_text old q)) → SeesLong new (pairs ++ record { key = key; value = value } ∷ [])
 sees_many old new pairs key value le all added =
     (λ few. absurd (omega (arith, few, le, length-append pairs (record { key = key; value = value } ∷ []))), λ more. sees_more old new pairs key value all added)

@@ -155,4 +155,4 @@ Answers (Err refused.NoMemory) read = Unit {0}
 
 -- the keys of few pairs aren't noted, and those of more are
 abbrev pub SeesLong : List (List ℕ) → List (Pair Value) → Type 0
-SeesLong keys pairs = (length pairs ≤ 16 → keys ≡ []) × (16 < length pairs → SeesAll keys pairs)
+SeesLong keys pairs = (length pairs ≤ 64 → keys ≡ []) × (64 < length pairs → SeesAll keys pairs)

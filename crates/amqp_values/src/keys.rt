@@ -12,7 +12,7 @@ use std::alloc::Global;
 use std::collections::BTreeSet;
 
 /// So many keys are compared one by one, which takes no memory; of more a set is kept.
-const FEW: usize = 16;
+const FEW: usize = 64;
 
 /// Whether a key stands in pairs.
 fn has_key(pairs: &[Pair<Value>], key: &Text) -> bool
@@ -45,7 +45,7 @@ fn catch_up(
     seen: &mut BTreeSet<Text>,
     before: &[Pair<Value>],
 ) -> Result<(), NoMemory>
-    requires { 16 ≤ length before.now }
+    requires { 64 ≤ length before.now }
     ensures { SeesLong seen.old.keys before.now → OnOk result (SeesAll seen.new.keys before.now) }
 {
     if before.len() > FEW {
