@@ -18,10 +18,18 @@ Rise low (run ∷ runs) = (low ≤ run.0) × (run.0 ≤ run.1) × (run.1 < 2 ^ 6
 abbrev pub AreRuns : List (ℕ × ℕ) → Type 0
 AreRuns runs = Rise 0 runs
 
+-- ranges of numbers below 2^63, in any order
+abbrev pub AreRanges : List (ℕ × ℕ) → Type 0
+AreRanges [] = Unit {0}
+AreRanges (range ∷ ranges) = (range.0 ≤ range.1) × (range.1 < 2 ^ 63) × AreRanges ranges
+
 -- ---- what calls do to the set
 
 abbrev pub Adds : List (ℕ × ℕ) → ℕ × ℕ → List (ℕ × ℕ) → Type 0
 Adds old run new = (n : ℕ) → names new n ≡ (within run n || names old n)
+
+abbrev pub AddsAll : List (ℕ × ℕ) → List (ℕ × ℕ) → List (ℕ × ℕ) → Type 0
+AddsAll old ranges new = (n : ℕ) → names new n ≡ (names ranges n || names old n)
 
 abbrev pub Cuts : List (ℕ × ℕ) → ℕ → List (ℕ × ℕ) → Type 0
 Cuts old number new = (n : ℕ) → names new n ≡ (nat_le number n && names old n)

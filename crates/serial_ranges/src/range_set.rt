@@ -1,6 +1,7 @@
 //! Sets of numbers by their maximal runs.
-ghost use Rattle.std.specs.Prelude.{◌≡◌, ◌^◌, ◌<◌, ◌≤◌, ◌++◌, ◌∷◌, nat_lt, nat_le, ℕ, List, [], length, take, drop, fold, OnOk, OnErr, IfOk};
-ghost use Rattle.serial_ranges.specs.Runs.{names, AreRuns, Adds, Cuts, IsLeastMissing, IsSplit, IsBehind, join, trimmed, common, Meets, IsMet};
+ghost use Rattle.std.specs.Prelude.{◌≡◌, ◌+◌, ◌^◌, ◌<◌, ◌≤◌, ◌++◌, ◌∷◌, nat_lt, nat_le, ℕ, List, [], length, take, drop, fold, OnOk, OnErr, IfOk, IsOk};
+ghost use Rattle.std.specs.Vec.{vec_len, vec_capacity};
+ghost use Rattle.serial_ranges.specs.Runs.{names, AreRuns, AreRanges, Adds, AddsAll, Cuts, IsLeastMissing, IsSplit, IsBehind, join, trimmed, common, Meets, IsMet};
 ghost use Rattle.std.specs.Iterator.{YieldsFirst, item_count};
 
 use octet_reading::NoMemory;
@@ -73,7 +74,9 @@ fn joined(run: (u64, u64), others: &[(u64, u64)]) -> (u64, u64)
 fn close(runs: &mut Vec<(u64, u64)>, start: usize, end: usize)
     requires order { start ≤ end }
     requires within { end ≤ length runs.old.items }
-    ensures { runs.new.items ≡ take start runs.old.items ++ drop end runs.old.items }
+    ensures items { runs.new.items ≡ take start runs.old.items ++ drop end runs.old.items }
+    ensures len { vec_len runs.new ≤ vec_len runs.old }
+    ensures capacity { vec_capacity runs.new ≡ vec_capacity runs.old }
 {
     let kept = start + (runs.len() - end);
     runs.as_mut_slice().copy_within(end.., start);
@@ -88,6 +91,13 @@ impl RangeSet {
         RangeSet {
             runs: Vec::new(alloc),
         }
+    }
+
+    /// How many maximal runs the set has. Takes no memory.
+    pub fn len(&self) -> usize
+        ensures { result ≡ length self.now }
+    {
+        self.runs.len()
     }
 
     /// Whether a number is in the set. Takes no memory.
@@ -122,6 +132,17 @@ impl RangeSet {
         ensures same { OnErr result (self.new ≡ self.old) }
     {
         put(&mut self.runs, lower, upper)
+    }
+
+    /// Puts all numbers of these ranges, each by its least and greatest number, into the set, or none.
+    pub fn add_ranges(&mut self, ranges: &[(u64, u64)]) -> Result<(), NoMemory>
+        requires { AreRanges ranges.now }
+        ensures adds { OnOk result (AddsAll self.old ranges.now self.new) }
+        ensures same { OnErr result (self.new ≡ self.old) }
+    {
+        self.runs.reserve(ranges.len())?;
+        put_all(&mut self.runs, ranges);
+        Ok(())
     }
 
     /// Takes all numbers below this one out of the set. Takes no memory.
@@ -213,6 +234,9 @@ fn put(runs: &mut Vec<(u64, u64)>, lower: u64, upper: u64) -> Result<(), NoMemor
     ensures runs { AreRuns runs.new.items }
     ensures adds { OnOk result (Adds runs.old.items (lower, upper) runs.new.items) }
     ensures same { OnErr result (runs.new.items ≡ runs.old.items) }
+    ensures fits { vec_len runs.old < vec_capacity runs.old → IsOk result }
+    ensures len { vec_len runs.new ≤ vec_len runs.old + 1 }
+    ensures capacity { vec_capacity runs.old ≤ vec_capacity runs.new }
 {
     let start = ended(runs.as_slice(), lower.saturating_sub(1));
     let end = begun(runs.as_slice(), upper + 1);
@@ -226,11 +250,35 @@ fn put(runs: &mut Vec<(u64, u64)>, lower: u64, upper: u64) -> Result<(), NoMemor
     Ok(())
 }
 
+/// Puts ranges among the runs, for which there is room. Takes no memory.
+fn put_all(runs: &mut Vec<(u64, u64)>, ranges: &[(u64, u64)])
+    requires ranges { AreRanges ranges.now }
+    requires room { vec_len runs.old + length ranges.now ≤ vec_capacity runs.old }
+    requires runs { AreRuns runs.old.items }
+    ensures runs { AreRuns runs.new.items }
+    ensures adds { AddsAll runs.old.items ranges.now runs.new.items }
+{
+    let mut rest = ranges;
+    loop {
+        let Some((range, more)) = rest.split_first() else {
+            return;
+        };
+        match put(runs, range.0, range.1) {
+            Ok(()) => (),
+            Err(_) => unreachable!(),
+        }
+        rest = more;
+    }
+}
+
 /// Puts a run at a place.
 fn insert(runs: &mut Vec<(u64, u64)>, at: usize, run: (u64, u64)) -> Result<(), NoMemory>
     requires { at ≤ length runs.old.items }
     ensures ok { OnOk result (runs.new.items ≡ take at runs.old.items ++ run ∷ drop at runs.old.items) }
     ensures err { OnErr result (runs.new.items ≡ runs.old.items) }
+    ensures fits { vec_len runs.old < vec_capacity runs.old → IsOk result }
+    ensures len { vec_len runs.new ≤ vec_len runs.old + 1 }
+    ensures capacity { vec_capacity runs.old ≤ vec_capacity runs.new }
 {
     match runs.insert(at, run) {
         Ok(()) => Ok(()),
@@ -242,7 +290,9 @@ fn insert(runs: &mut Vec<(u64, u64)>, at: usize, run: (u64, u64)) -> Result<(), 
 fn replace(runs: &mut Vec<(u64, u64)>, start: usize, end: usize, run: (u64, u64))
     requires order { start < end }
     requires within { end ≤ length runs.old.items }
-    ensures { runs.new.items ≡ take start runs.old.items ++ run ∷ drop end runs.old.items }
+    ensures items { runs.new.items ≡ take start runs.old.items ++ run ∷ drop end runs.old.items }
+    ensures len { vec_len runs.new ≤ vec_len runs.old }
+    ensures capacity { vec_capacity runs.new ≡ vec_capacity runs.old }
 {
     runs[start] = run;
     close(runs, start + 1, end);
@@ -358,6 +408,16 @@ mod tests {
         assert!(rt; has(&set, [(0, 5), (9, 19), (30, 39)].as_slice()));
         set.add_range(6, 40)?;
         assert!(rt; has(&set, [(0, 40)].as_slice()));
+        Ok(())
+    }
+
+    #[test]
+    fn ranges_in_any_order_are_put_together(rt: HostRuntime) -> Result<(), Fail> {
+        let mut set = set_of(rt.alloc(), [(10, 19)].as_slice())?;
+        set.add_ranges([(30, 39), (0, 4), (5, 9), (38, 45)].as_slice())?;
+        assert!(rt; has(&set, [(0, 19), (30, 45)].as_slice()) && set.len() == 2);
+        set.add_ranges([].as_slice())?;
+        assert!(rt; has(&set, [(0, 19), (30, 45)].as_slice()));
         Ok(())
     }
 

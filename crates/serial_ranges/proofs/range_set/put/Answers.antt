@@ -27,7 +27,7 @@ returns-clause-runs c =
     let e = subst (λ ys. IsSplit (λ y. y.0 ≤ c.args.upper + 1) (λ y. c.args.upper + 1 < y.0) ys c.begun-end.result) c.as_slice-2.ensures.value c.begun-end.ensures in
     let p = put_over xs c.args.lower c.args.upper c.ended-start.result c.begun-end.result c.requires.order c.requires.within c.requires.runs s e (omega (arith, c.if-end-start.false)) in
     let mid = c.split_at-2.ensures.back ∙ ap (drop c.ended-start.result) (c.split_at.ensures.front ∙ ap (take c.begun-end.result) c.as_slice-3.ensures.value) in
-    subst AreRuns (sym (c.replace.ensures ∙ ap (λ r. take c.ended-start.result xs ++ r ∷ drop c.begun-end.result xs) (c.joined-run.ensures ∙ ap (fold join (c.args.lower, c.args.upper)) mid))) p.runs
+    subst AreRuns (sym (c.replace.ensures.items ∙ ap (λ r. take c.ended-start.result xs ++ r ∷ drop c.begun-end.result xs) (c.joined-run.ensures ∙ ap (fold join (c.args.lower, c.args.upper)) mid))) p.runs
 
 pub returns-clause-adds : goal.returns-clause-adds
 returns-clause-adds c =
@@ -36,4 +36,4 @@ returns-clause-adds c =
     let e = subst (λ ys. IsSplit (λ y. y.0 ≤ c.args.upper + 1) (λ y. c.args.upper + 1 < y.0) ys c.begun-end.result) c.as_slice-2.ensures.value c.begun-end.ensures in
     let p = put_over xs c.args.lower c.args.upper c.ended-start.result c.begun-end.result c.requires.order c.requires.within c.requires.runs s e (omega (arith, c.if-end-start.false)) in
     let mid = c.split_at-2.ensures.back ∙ ap (drop c.ended-start.result) (c.split_at.ensures.front ∙ ap (take c.begun-end.result) c.as_slice-3.ensures.value) in
-    subst (Adds xs (c.args.lower, c.args.upper)) (sym (c.replace.ensures ∙ ap (λ r. take c.ended-start.result xs ++ r ∷ drop c.begun-end.result xs) (c.joined-run.ensures ∙ ap (fold join (c.args.lower, c.args.upper)) mid))) p.adds
+    subst (Adds xs (c.args.lower, c.args.upper)) (sym (c.replace.ensures.items ∙ ap (λ r. take c.ended-start.result xs ++ r ∷ drop c.begun-end.result xs) (c.joined-run.ensures ∙ ap (fold join (c.args.lower, c.args.upper)) mid))) p.adds
