@@ -1,7 +1,8 @@
 -- The rows of the code's table print as the lives do.
 use Rattle.std.proofs.Common.{◌≡◌, ℕ, ◌-◌, List, ◌++◌, length, flat_map, ◌∙◌, ap, sym, refl, arith}
 use Rattle.history_model.specs.declared.names.ConnName.{ConnName}
-use Rattle.history_model.specs.Life.{Heard, next, sent, replies}
+use Rattle.std.proofs.lemmas.List.{length-drop}
+use Rattle.history_model.specs.Life.{Heard, next, sent, replies, base, kept}
 use Rattle.history_model.specs.Pairs.{Paired, none, more}
 use Rattle.history_model.specs.Report.{session_text, session_line, session_line_at, shown, trace_number}
 use Rattle.hub_core.specs.declared.session.Session.{Session}
@@ -12,7 +13,7 @@ use Rattle.hub_core.proofs.ReceiverLemmas.{next_is}
 -- one row
 row_line : (names : List ConnName) (name : List ℕ) (s : Session) (life : List Heard) → Sits s life → row_text names (name, s) ≡ session_line names (name, life)
 row_line names name s life h =
-    let counted : s.sent - s.base ≡ length (replies life) = omega (arith, h.sent_is, h.base_is) in
+    let counted : s.sent - s.base ≡ length (kept life) = omega (arith, h.sent_is, h.base_is, length-drop (base life) (replies life)) in
     ap (λ n. session_text (shown name) n s.sent (s.sent - s.base) (trace_number names s.connection) s.channel) (sym (next_is s.receiver life h.receives))
     ∙ ap (λ n. session_text (shown name) (next life) n (s.sent - s.base) (trace_number names s.connection) s.channel) h.sent_is
     ∙ ap (λ n. session_text (shown name) (next life) (sent life) n (trace_number names s.connection) s.channel) counted
