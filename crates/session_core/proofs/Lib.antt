@@ -1,0 +1,4 @@
+pub mod Keeping
+pub mod Reaching
+pub mod Receiving
+pub mod Sending
