@@ -1,0 +1,5 @@
+pub mod Answers
+pub mod Client
+pub mod Mechanism
+pub mod Server
+pub mod Standing
