@@ -236,6 +236,7 @@ fn both_ends_come_to_terms(rt: HostRuntime) -> Result<(), Fail> {
         }
     }
     assert!(rt; client.hear(1, &attach())?.pass && server.hear(1, &attach())?.pass);
+    assert!(rt; ClientEnd::ready(alloc).hear(1, &attach())?.pass);
     let said = client.hear(0, &tune_ok(65535, 0))?;
     assert!(rt; says(&said, [].as_slice()) && said.closed == Some(Some(Why::OutOfOrder)));
     Ok(())

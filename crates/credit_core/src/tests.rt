@@ -148,5 +148,6 @@ fn octets_must_suffice_too(rt: HostRuntime) -> Result<(), Fail> {
     }
     let nothing = Offers::from_vec(Vec::new(alloc));
     assert!(rt; subs.next_ready(&nothing) == None);
+    assert!(rt; nothing.as_slice().is_empty() && nothing.into_vec().is_empty());
     Ok(())
 }

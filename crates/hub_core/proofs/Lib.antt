@@ -1,3 +1,2 @@
-pub mod ReceiverLemmas
 pub mod ReportLemmas
 pub mod StateLemmas

@@ -8,13 +8,13 @@ use Rattle.history_model.specs.Report.{session_text, session_line, session_line_
 use Rattle.hub_core.specs.declared.session.Session.{Session}
 use Rattle.hub_core.specs.Rows.{row_text}
 use Rattle.hub_core.specs.Stands.{Sits}
-use Rattle.hub_core.proofs.ReceiverLemmas.{next_is}
+use Rattle.session_core.proofs.Receiving.{next_is}
 
 -- one row
 row_line : (names : List ConnName) (name : List ℕ) (s : Session) (life : List Heard) → Sits s life → row_text names (name, s) ≡ session_line names (name, life)
 row_line names name s life h =
     let counted : s.sent - s.base ≡ length (kept life) = omega (arith, h.sent_is, h.base_is, length-drop (base life) (replies life)) in
-    ap (λ n. session_text (shown name) n s.sent (s.sent - s.base) (trace_number names s.connection) s.channel) (sym (next_is s.receiver life h.receives))
+    ap (λ n. session_text (shown name) n s.sent (s.sent - s.base) (trace_number names s.connection) s.channel) (next_is s.receiver life h.receives)
     ∙ ap (λ n. session_text (shown name) (next life) n (s.sent - s.base) (trace_number names s.connection) s.channel) h.sent_is
     ∙ ap (λ n. session_text (shown name) (next life) (sent life) n (trace_number names s.connection) s.channel) counted
     ∙ sym (ap (session_line_at names name life) h.place_is)

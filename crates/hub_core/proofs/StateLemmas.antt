@@ -16,7 +16,7 @@ use Rattle.hub_core.specs.declared.session.Session.{Session}
 use Rattle.hub_core.specs.declared.state.State.{State}
 use Rattle.hub_core.specs.Places.{holder_in}
 use Rattle.hub_core.specs.Stands.{Sits, StandsAs, next_in}
-use Rattle.hub_core.proofs.ReceiverLemmas.{next_is}
+use Rattle.session_core.proofs.Receiving.{next_is}
 
 -- both are there, or neither
 both-is_some : {X Y : Type 0} (R : X → Y → Type 0) (a : Option X) (b : Option Y) → Both R a b → is_some a ≡ is_some b

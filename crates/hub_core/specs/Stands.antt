@@ -5,11 +5,11 @@ use Rattle.history_model.specs.Life.{Heard, place, number, is_new, next, sent, b
 use Rattle.history_model.specs.Pairs.{Paired}
 use Rattle.history_model.specs.Standing.{World, world}
 use Rattle.history_model.specs.State.{state}
-use Rattle.hub_core.specs.declared.receiver.Arrival.{Arrival as Arrived}
+use Rattle.session_core.specs.declared.receiver.Arrival.{Arrival as Arrived}
 use Rattle.hub_core.specs.declared.session.Session.{Session}
 use Rattle.hub_core.specs.declared.state.State.{State}
 use Rattle.hub_core.specs.Places.{holder_in}
-use Rattle.hub_core.specs.Receives.{Receives}
+use Rattle.session_core.specs.Received.{Receives}
 
 -- a session stands for its life
 pub record Sits (s : Session) (h : List Heard) : Type 0 where

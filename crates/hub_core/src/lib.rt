@@ -5,7 +5,6 @@ mod answers;
 mod covers;
 mod hub;
 mod places;
-mod receiver;
 mod report;
 mod session;
 mod state;

@@ -1,7 +1,7 @@
 //! A session that lives.
 ghost use Rattle.std.specs.Prelude.{◌≡◌};
 
-use crate::receiver::Receiver;
+use session_core::Receiver;
 
 /// Where the session stands, and both of its halves.
 #[derive(Debug, Drop)]

@@ -15,12 +15,12 @@ ghost use Rattle.hub_core.specs.Stands.{Sits, StandsAs, Comes, next_in};
 
 use crate::answers::{attached, completed, sent};
 use crate::places::Places;
-use crate::receiver::{Arrival, Receiver};
 use crate::report::{push_queues, push_sessions};
 use crate::session::Session;
 use amqp_terms::{Command, Control, Unit, discard_units};
 use amqp_values::{NoMemory, Octets, Text};
 use history_model::{ConnName, HubEvent, Out, Outs};
+use session_core::{Arrival, Receiver};
 use sqlite_items::Items;
 use std::alloc::Global;
 use std::collections::{BTreeMap, BTreeSet};
@@ -59,7 +59,7 @@ fn arrive_in(sessions: &mut BTreeMap<Octets, Session>, name: &Octets)
     match sessions.get_mut(name) {
         Some(session) => {
             if session.receiver.next() < FAR_END {
-                session.receiver.arrive();
+                let _ = session.receiver.arrive();
             }
         }
         None => {}
@@ -75,7 +75,7 @@ fn point_in(sessions: &mut BTreeMap<Octets, Session>, name: &Octets, number: u64
     match sessions.get_mut(name) {
         Some(session) => {
             if number <= session.receiver.next() {
-                session.receiver.point(number);
+                session.receiver.point_at(number);
             }
         }
         None => {}
@@ -173,7 +173,7 @@ impl State {
         let session = Session {
             connection,
             channel,
-            receiver: Receiver::new(),
+            receiver: Receiver::new(self.alloc),
             sent: 0,
             base: 0,
         };

@@ -2,7 +2,7 @@
 use Rattle.std.proofs.Common.{◌≡◌, ℕ, ◌+◌, ◌<◌, ◌==◌, ◌||◌, not, true, false, List, ◌∷◌, sym, ap, ◌∙◌, subst, arith, inl, inr}
 use Rattle.std.proofs.lemmas.Bool.{or_from, or_left, or_right, ne_eqb, eq-eqb, cases_lt}
 use Rattle.serial_ranges.specs.Runs.{names, IsLeastMissing}
-use Rattle.history_model.specs.Life.{Heard, Does, Gap, number, taken, is_new, next, IsNext}
+use Rattle.history_model.specs.Life.{Heard, Attach, Does, Gap, number, taken, is_new, next, IsNext}
 use Rattle.history_model.proofs.Nexts.{next_from}
 use Rattle.session_core.specs.Received.{Received, Receives, IsLeft, IsUnnamed}
 
@@ -11,6 +11,10 @@ next_is r h s = sym (next_from h r.next s.next_is.free s.next_is.below)
 
 pub next_at : (h : List Heard) (n : ℕ) → IsNext h n → n ≡ next h
 next_at h n s = sym (next_from h n s.free s.below)
+
+-- an attach leaves it
+pub attach_is : (r : Received) (h : List Heard) (connection channel : ℕ) → Receives r h → Receives r (Attach connection channel ∷ h)
+attach_is r h connection channel s = record { point_is = s.point_is; next_is = record { free = s.next_is.free; below = s.next_is.below }; ahead_is = s.ahead_is }
 
 -- ---- a command
 

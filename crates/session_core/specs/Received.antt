@@ -22,14 +22,14 @@ pub record IsWithin (r : Received) : Type 0 where
   pub high : r.next ≤ 2 ^ 62 + 2 ^ 33
   pub reach : (n : ℕ) → names r.ahead n ≡ true → n < 2 ^ 62 + 2 ^ 33
 
--- a number up to a limit
-abbrev pub up_to : ℕ → Option ℕ → Option ℕ
-up_to limit None = None
-up_to limit (Some n) = if nat_le n limit then Some n else None
-
--- the number that a command-point sets, if it may
+-- the number that a command-point names
 abbrev pub pointed : ℕ → ℕ → ℕ → Option ℕ
-pointed next serial offset = if offset == 0 then up_to next (unwrapped next serial) else None
+pointed next serial offset = if offset == 0 then unwrapped next serial else None
+
+-- a number that is there, and not above the limit
+abbrev pub is_within : Option ℕ → ℕ → Bool
+is_within None limit = false
+is_within (Some n) limit = nat_le n limit
 
 -- of a set, numbers below the next may be gone, and no other
 pub record IsLeft (old : List (ℕ × ℕ)) (next : ℕ) (new : List (ℕ × ℕ)) : Type 0 where

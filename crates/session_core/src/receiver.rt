@@ -1,8 +1,8 @@
 //! The half that receives: which number comes next, and which command is new.
-ghost use Rattle.std.specs.Prelude.{◌≡◌, ◌+◌, ◌^◌, ◌<◌, ◌≤◌, ◌||◌, ℕ, List, [], ◌∷◌, true, false, OnOk, OnErr, IfOk, IfErr, is_ok, is_some, Some};
+ghost use Rattle.std.specs.Prelude.{◌≡◌, ◌+◌, ◌^◌, ◌<◌, ◌≤◌, ◌||◌, ℕ, List, [], ◌∷◌, true, false, OnOk, OnErr, IfOk, IfErr, is_ok, Some};
 ghost use Rattle.serial_ranges.specs.Runs.{names, IsLeastMissing};
 ghost use Rattle.history_model.specs.Life.{Heard, Point, Does, Gap, named, number, is_new, next as next_of};
-ghost use Rattle.session_core.specs.Received.{Received, Receives, pointed, IsLeft, IsPast, IsUnnamed};
+ghost use Rattle.session_core.specs.Received.{Received, Receives, pointed, is_within, IsLeft, IsPast, IsUnnamed};
 
 use crate::fault::UnknownIds;
 use amqp_values::{NoMemory, Range, Ranges};
@@ -63,24 +63,59 @@ impl Receiver {
         self.next
     }
 
-    /// Takes a command-point. It may name a number up to the next one, and no offset, as no command is in parts here.
-    /// Takes no memory.
+    /// The number that a command-point names; none with an offset, as no command comes in parts here, and where it would
+    /// be negative. Takes no memory.
+    pub fn pointed(&self, serial: u32, offset: u64) -> Option<u64>
+        ensures value { result ≡ pointed self.now.next serial offset }
+        ensures pointed { (h : List Heard) → Receives self.now h → result ≡ pointed (next_of h) serial offset }
+    {
+        if offset == 0 {
+            unwrap(self.next, serial)
+        } else {
+            None
+        }
+    }
+
+    /// Lets the next command have this number. Takes no memory.
+    pub fn point_at(&mut self, number: u64)
+        requires { number ≤ self.old.next }
+        ensures { (h : List Heard) → Receives self.old h → Receives self.new (Point number ∷ h) }
+    {
+        self.point = number;
+    }
+
+    /// Takes a command-point. It may name a number up to the next one. Takes no memory.
     pub fn point(&mut self, serial: u32, offset: u64) -> Result<(), UnknownIds>
-        ensures ok { is_ok result ≡ is_some (pointed self.old.next serial offset) }
-        ensures point { (h : List Heard) (n : ℕ) → Receives self.old h → pointed self.old.next serial offset ≡ Some n → Receives self.new (Point n ∷ h) }
+        ensures ok { is_ok result ≡ is_within (pointed self.old.next serial offset) self.old.next }
+        ensures point { (h : List Heard) (n : ℕ) → Receives self.old h → pointed self.old.next serial offset ≡ Some n → n ≤ self.old.next → Receives self.new (Point n ∷ h) }
         ensures unknown_ids { IfErr result (λ fault. fault ≡ record { next = self.old.next; got = serial; offset = offset }) }
         ensures err { OnErr result (self.new ≡ self.old) }
     {
-        match pointed(self.next, serial, offset) {
+        let unknown = UnknownIds {
+            next: self.next,
+            got: serial,
+            offset,
+        };
+        match self.pointed(serial, offset) {
             Some(number) => {
+                if number > self.next {
+                    return Err(unknown);
+                }
                 self.point = number;
                 Ok(())
             }
-            None => Err(UnknownIds {
-                next: self.next,
-                got: serial,
-                offset,
-            }),
+            None => Err(unknown),
+        }
+    }
+
+    /// What the next command would be. Takes no memory.
+    pub fn coming(&self) -> Arrival
+        ensures number { (h : List Heard) → Receives self.now h → result.number ≡ number h }
+        ensures new { (h : List Heard) → Receives self.now h → result.new ≡ is_new h }
+    {
+        Arrival {
+            number: self.point,
+            new: self.point == self.next,
         }
     }
 
@@ -131,20 +166,6 @@ impl Receiver {
         ensures { (h : List Heard) → Receives self.now h → result ≡ next_of (Gap (named self.now.next ranges.now) ∷ h) }
     {
         least_unnamed(&self.ahead, ranges.as_slice(), self.next)
-    }
-}
-
-/// The number that a command-point sets, if it may.
-fn pointed(next: u64, serial: u32, offset: u64) -> Option<u64>
-    requires { next < 2 ^ 63 }
-    ensures { result ≡ pointed next serial offset }
-{
-    if offset != 0 {
-        return None;
-    }
-    match unwrap(next, serial) {
-        Some(number) => { if number <= next { Some(number) } else { None } }
-        None => None,
     }
 }
 

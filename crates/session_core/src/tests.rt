@@ -74,6 +74,25 @@ fn a_repeated_command_is_not_new(rt: HostRuntime) -> Result<(), Fail> {
     );
     assert!(rt; receiver.point(0, 0) == Ok(()));
     assert!(rt; receiver.next() == 1);
+    assert!(rt; receiver.pointed(1, 0) == Some(1) && receiver.pointed(1, 1) == None);
+    if receiver.next() == 1 {
+        receiver.point_at(1);
+        assert!(rt;
+            receiver.coming()
+                == Arrival {
+                    number: 1,
+                    new: true
+                }
+        );
+        receiver.point_at(0);
+    }
+    assert!(rt;
+        receiver.coming()
+            == Arrival {
+                number: 0,
+                new: false
+            }
+    );
     assert!(rt;
         take(&mut receiver)
             == Some(Arrival {

@@ -15,7 +15,7 @@ returns-then-next-lt-FAR_END c = λ lives p may.
     let new : Session = record { connection = old.connection; channel = old.channel; receiver = c.arrive.new.self; sent = old.sent; base = old.base } in
     subst (λ es. Paired Sits es (hears_in lives c.args.name.now (lookup (is_name c.args.name.now) lives) Does)) (sym (c.get_mut.follows.holds new).0)
     (heard_set c.args.name.now c.args.sessions.now.entries lives old new Does p c.in-Some.ensures.value
-    (λ life e s. record { place_is = s.place_is; receives = c.arrive.ensures life s.receives; sent_is = s.sent_is; base_is = s.base_is }))
+    (λ life e s. record { place_is = s.place_is; receives = c.arrive.ensures.does life s.receives; sent_is = s.sent_is; base_is = s.base_is }))
 
 pub returns-else-next-lt-FAR_END : goal.returns-else-next-lt-FAR_END
 returns-else-next-lt-FAR_END c = λ lives p may.

@@ -12,10 +12,10 @@ use Rattle.hub_core.proofs.state.point_in.Goals as goal
 pub returns-then-number-next : goal.returns-then-number-next
 returns-then-number-next c = λ lives p within.
     let old : Session = c.in-Some.session.now in
-    let new : Session = record { connection = old.connection; channel = old.channel; receiver = c.point.new.self; sent = old.sent; base = old.base } in
+    let new : Session = record { connection = old.connection; channel = old.channel; receiver = c.point_at.new.self; sent = old.sent; base = old.base } in
     subst (λ es. Paired Sits es (hears_in lives c.args.name.now (lookup (is_name c.args.name.now) lives) (Point c.args.number))) (sym (c.get_mut.follows.holds new).0)
     (heard_set c.args.name.now c.args.sessions.now.entries lives old new (Point c.args.number) p c.in-Some.ensures.value
-    (λ life e s. record { place_is = s.place_is; receives = c.point.ensures life s.receives; sent_is = s.sent_is; base_is = s.base_is }))
+    (λ life e s. record { place_is = s.place_is; receives = c.point_at.ensures life s.receives; sent_is = s.sent_is; base_is = s.base_is }))
 
 pub returns-else-number-next : goal.returns-else-number-next
 returns-else-number-next c = λ lives p within.

@@ -9,12 +9,13 @@ use Rattle.history_model.proofs.Tables.{paired-insert}
 use Rattle.hub_core.specs.declared.session.Session.{Session}
 use Rattle.hub_core.specs.Places.{holder_in}
 use Rattle.hub_core.specs.Stands.{Sits}
+use Rattle.session_core.proofs.Receiving.{attach_is}
 use Rattle.hub_core.proofs.state.State.seat.Goals as goal
 
 pub returns-in-Ok-clause-seated : goal.returns-in-Ok-clause-seated
 returns-in-Ok-clause-seated c = λ w queues s.
     let new : Session = record { connection = c.args.connection; channel = c.args.channel; receiver = c.new.result; sent = 0; base = 0 } in
-    let sits : Sits new (Attach c.args.connection c.args.channel ∷ []) = record { place_is = refl; receives = c.new.ensures c.args.connection c.args.channel; sent_is = refl; base_is = refl } in
+    let sits : Sits new (Attach c.args.connection c.args.channel ∷ []) = record { place_is = refl; receives = attach_is c.new.result [] c.args.connection c.args.channel c.new.ensures; sent_is = refl; base_is = refl } in
     record {
       joined_is = s.joined_is;
       limited = s.limited;
