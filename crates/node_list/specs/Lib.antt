@@ -1,0 +1,4 @@
+pub mod Keys
+pub mod Links
+pub mod Lists
+pub mod Lending
