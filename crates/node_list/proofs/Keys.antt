@@ -167,3 +167,12 @@ distinct_before o key (k ∷ keys) n d = distinct_before_go o key k keys (k == o
 pub distinct_put : (spot : Option ℕ) (key : ℕ) (keys : List ℕ) → has key keys ≡ false → Distinct keys → Distinct (put_at spot key keys)
 distinct_put None key keys n d = distinct_last key keys n d
 distinct_put (Some o) key keys n d = distinct_before o key keys n d
+
+before_absent_go : (o key k : ℕ) (keys : List ℕ) (b : Bool) → (k == o) ≡ b → has o (k ∷ keys) ≡ false → put_before o key keys ≡ keys → (if b then key ∷ k ∷ keys else k ∷ put_before o key keys) ≡ k ∷ keys
+before_absent_go o key k keys true e n ih = absurd ((absent o k keys n).0 (eqb-true k o e))
+before_absent_go o key k keys false e n ih = ap (λ (ks : List ℕ). k ∷ ks) ih
+
+-- nothing is put before a key that isn't there
+pub before_absent : (o key : ℕ) (keys : List ℕ) → has o keys ≡ false → put_before o key keys ≡ keys
+before_absent o key [] n = refl
+before_absent o key (k ∷ keys) n = before_absent_go o key k keys (k == o) refl n (before_absent o key keys (absent o k keys n).1)

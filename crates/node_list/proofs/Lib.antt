@@ -1,3 +1,4 @@
 pub mod Keys
 pub mod Chains
 pub mod Spelling
+pub mod Showing

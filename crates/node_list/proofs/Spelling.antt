@@ -1,5 +1,5 @@
 -- What places and ends spell after a key is cut out or put in.
-use Rattle.std.proofs.Common.{◌≡◌, ◌≢◌, ℕ, zero, suc, ◌+◌, ◌<◌, ◌≤◌, ◌==◌, ◌||◌, Bool, true, false, if◌then◌else◌, List, [], ◌∷◌, ◌++◌, length, map, Option, None, Some, inl, inr, sym, ap, ◌∙◌, subst, refl, arith, slice_index_or, slice_set}
+use Rattle.std.proofs.Common.{◌≡◌, ◌≢◌, ℕ, zero, suc, ◌+◌, ◌<◌, ◌≤◌, ◌==◌, ◌||◌, ◌⊎◌, Bool, true, false, if◌then◌else◌, List, [], ◌∷◌, ◌++◌, length, map, Option, None, Some, inl, inr, sym, ap, ◌∙◌, subst, refl, arith, slice_index_or, slice_set}
 use Rattle.std.proofs.lemmas.Bool.{eqb-true, true≢false, cases_lt, cases_eq, cases_Bool}
 use Rattle.std.proofs.lemmas.Option.{none-some}
 use Rattle.std.proofs.lemmas.List.{length-set, length-map, get_or-set_same, get_or-set_other, get_or_past, get_or-map, ext_get_or}
@@ -78,6 +78,14 @@ module _ (g : ℕ → Option Place) where
   wp_here : (k : ℕ) (n : Option ℕ) → with_previous (Some k) n g k ≡ previous_by n (g k)
   wp_here k n = ap (λ (b : Bool). if b then previous_by n (g k) else g k) (same k)
 
+-- the list of a place stays where its neighbours change
+pub put_list_is : (f : ℕ → Option Place) (key : ℕ) (p : Place) (j : ℕ) → list_of (put_in key p f j) ≡ list_of (placed key (Some p) f j)
+put_list_is f key p j = wp_list (with_next p.previous (Some key) (placed key (Some p) f)) p.next (Some key) j ∙ wn_list (placed key (Some p) f) p.previous (Some key) j
+
+pub joined_list_is : (f : ℕ → Option Place) (p : Option Place) (j : ℕ) → list_of (joined p f j) ≡ list_of (f j)
+joined_list_is f None j = refl
+joined_list_is f (Some p) j = wp_list (with_next p.previous p.next f) p.next p.previous j ∙ wn_list f p.previous p.next j
+
 -- ---- changes of the ends
 
 module _ (ends : List Ends) (l : ℕ) (lt : l < length ends) where
@@ -110,6 +118,10 @@ module _ (ends : List Ends) (l : ℕ) (lt : l < length ends) where
   last_first : (spot n : Option ℕ) → (ends_at (last_set ends l spot n) l).first ≡ (ends_at ends l).first
   last_first None n = ap (λ (e : Ends). e.first) (set_last n)
   last_first (Some k) n = refl
+
+pub set_length : (ends : List Ends) (l : ℕ) → l < length ends → (spot spot2 n n2 : Option ℕ) → length (last_set (first_set ends l spot n) l spot2 n2) ≡ length ends
+set_length ends l lt spot spot2 n n2 =
+    last_length (first_set ends l spot n) l (subst (λ (m : ℕ). l < m) (sym (first_length ends l lt spot n)) lt) spot2 n2 ∙ first_length ends l lt spot n
 
 -- ---- two spots of a list linked anew
 
@@ -223,6 +235,19 @@ module _ (f : ℕ → Option Place) (ends : List Ends) (lists : List (List ℕ))
     listed = λ i k h. ap list_of (eq k) ∙ s.listed i k h;
     covers = λ i k e. s.covers i k (sym (ap list_of (eq k)) ∙ e);
   }
+
+  -- the next one and the first one are of the same list
+  pub next_listed : (l key : ℕ) → list_of (f key) ≡ Some l → (j : ℕ) → next_of (f key) ≡ Some j → list_of (f j) ≡ Some l
+  next_listed l key e j q =
+      after_in (after f ends l) (before f ends l) (λ x. (i : ℕ) → x ≡ Some i → list_of (f i) ≡ Some l) None (list_at lists l) key (s.chains l (listed_below l key e)) (s.covers l key e)
+      (λ i r. absurd (none-some i r)) (λ k h i r. subst (λ (m : ℕ). list_of (f m) ≡ Some l) (ap key_in r) (s.listed l k h)) j q
+
+  first_go : (l : ℕ) (keys : List ℕ) → Chain (after f ends l) (before f ends l) None keys → ((k : ℕ) → has k keys ≡ true → list_of (f k) ≡ Some l) → (j : ℕ) → (ends_at ends l).first ≡ Some j → list_of (f j) ≡ Some l
+  first_go l [] c all j e = absurd (none-some j (sym c.0 ∙ e))
+  first_go l (k ∷ keys) c all j e = subst (λ (m : ℕ). list_of (f m) ≡ Some l) (ap key_in (sym c.0 ∙ e)) (all k (here k keys))
+
+  pub first_listed : (l : ℕ) → l < length ends → (j : ℕ) → (ends_at ends l).first ≡ Some j → list_of (f j) ≡ Some l
+  first_listed l lt j e = first_go l (list_at lists l) (s.chains l lt) (s.listed l) j e
 
   -- ---- a key is cut out
 
