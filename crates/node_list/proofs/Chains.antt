@@ -1,10 +1,10 @@
 -- Chains of keys, linked both ways: a key is cut out of one, or put in.
-use Rattle.std.proofs.Common.{◌≡◌, ◌≢◌, ℕ, zero, suc, ◌+◌, ◌<◌, ◌≤◌, ◌==◌, ◌||◌, Bool, true, false, if◌then◌else◌, List, [], ◌∷◌, ◌++◌, length, Option, None, Some, sym, ap, ◌∙◌, subst, refl, arith}
+use Rattle.std.proofs.Common.{◌≡◌, ◌≢◌, ℕ, ◌==◌, Bool, true, false, if◌then◌else◌, List, [], ◌∷◌, ◌++◌, Option, None, Some, sym, ap, ◌∙◌, subst, refl}
 use Rattle.std.proofs.lemmas.Bool.{eqb-true, true≢false}
 use Rattle.std.proofs.lemmas.Option.{none-some}
 use Rattle.node_list.specs.Keys.{has, Distinct, without, put_before, first_of, next_in}
 use Rattle.node_list.specs.Links.{Chain}
-use Rattle.node_list.proofs.Keys.{same, apart, differ, here, there, other, behind, absent, without_absent, put_at, is_spot}
+use Rattle.node_list.proofs.Keys.{differ, here, there, other, behind, absent, without_absent, put_at, is_spot}
 
 abbrev pub key_in : Option ℕ → ℕ
 key_in None = 0
@@ -86,9 +86,13 @@ module _ (A B : Option ℕ → Option ℕ) where
     pub chain_same : (from : Option ℕ) (keys : List ℕ) → Chain A B from keys → C from ≡ A from → ((k : ℕ) → has k keys ≡ true → C (Some k) ≡ A (Some k))
         → D None ≡ B None → ((k : ℕ) → has k keys ≡ true → D (Some k) ≡ B (Some k)) → Chain C D from keys
     chain_same from [] c a an b bs = (a ∙ c.0, b ∙ c.1)
-    chain_same from (k ∷ keys) c a an b bs =
-        (a ∙ c.0, (bs k (here k keys) ∙ c.1.0,
-        chain_same (Some k) keys c.1.1 (an k (here k keys)) (λ j h. an j (there j k keys h)) b (λ j h. bs j (there j k keys h))))
+    chain_same from (k ∷ keys) c a an b bs = (
+      a ∙ c.0,
+      (
+        bs k (here k keys) ∙ c.1.0,
+        chain_same (Some k) keys c.1.1 (an k (here k keys)) (λ j h. an j (there j k keys h)) b (λ j h. bs j (there j k keys h)),
+      ),
+    )
 
     -- ---- a key is cut out
 
@@ -103,16 +107,20 @@ module _ (A B : Option ℕ → Option ℕ) where
     cut_first key cut from [] n d off is c =
         ((ap C (sym is) ∙ cut.skips) ∙ c.0, (ap D (sym c.0) ∙ cut.back) ∙ is)
     cut_first key cut from (m ∷ keys) n d off is c =
-        let a = absent key m keys n in
-        ((ap C (sym is) ∙ cut.skips) ∙ c.0, ((ap D (sym c.0) ∙ cut.back) ∙ is,
-        chain_same_from m keys key cut from d off is a.0 a.1 c)) where
-      chain_same_from : (m : ℕ) (keys : List ℕ) (key : ℕ) → IsCut key → (from : Option ℕ) → Distinct (m ∷ keys) → Off from (m ∷ keys) → B (Some key) ≡ from → m ≢ key → has key keys ≡ false → Chain A B (Some key) (m ∷ keys) → Chain C D (Some m) keys
-      chain_same_from m keys key cut from d off is ne n c =
-          chain_same (Some m) keys c.1.1
-          (cut.nexts (Some m) (λ q. off m (here m keys) (sym is ∙ sym q)) (λ q. ne (ap key_in q)))
-          (λ j h. cut.nexts (Some j) (λ q. off j (there j m keys h) (sym is ∙ sym q)) (λ q. other j key keys h n (ap key_in q)))
-          (cut.previouses None (λ q. none-some m (q ∙ c.0)) (λ q. none-some key q))
-          (λ j h. cut.previouses (Some j) (λ q. other j m keys h d.0 (ap key_in (q ∙ c.0))) (λ q. other j key keys h n (ap key_in q)))
+        let a = absent key m keys n in (
+          (ap C (sym is) ∙ cut.skips) ∙ c.0,
+          (
+            (ap D (sym c.0) ∙ cut.back) ∙ is,
+            chain_same_from m keys key cut from d off is a.0 a.1 c,
+          ),
+        ) where
+          chain_same_from : (m : ℕ) (keys : List ℕ) (key : ℕ) → IsCut key → (from : Option ℕ) → Distinct (m ∷ keys) → Off from (m ∷ keys) → B (Some key) ≡ from → m ≢ key → has key keys ≡ false → Chain A B (Some key) (m ∷ keys) → Chain C D (Some m) keys
+          chain_same_from m keys key cut from d off is ne n c =
+              chain_same (Some m) keys c.1.1
+              (cut.nexts (Some m) (λ q. off m (here m keys) (sym is ∙ sym q)) (λ q. ne (ap key_in q)))
+              (λ j h. cut.nexts (Some j) (λ q. off j (there j m keys h) (sym is ∙ sym q)) (λ q. other j key keys h n (ap key_in q)))
+              (cut.previouses None (λ q. none-some m (q ∙ c.0)) (λ q. none-some key q))
+              (λ j h. cut.previouses (Some j) (λ q. other j m keys h d.0 (ap key_in (q ∙ c.0))) (λ q. other j key keys h n (ap key_in q)))
 
     cut_go : (key : ℕ) → IsCut key → (from : Option ℕ) (k : ℕ) (keys : List ℕ) (b : Bool) → (k == key) ≡ b → Distinct (k ∷ keys) → Off from (k ∷ keys) → from ≢ Some key → has key (k ∷ keys) ≡ true → Chain A B from (k ∷ keys)
         → (has key keys ≡ true → Chain C D (Some k) (without key keys)) → Chain C D from (if b then without key keys else k ∷ without key keys)
@@ -124,9 +132,10 @@ module _ (A B : Option ℕ → Option ℕ) where
     cut_go key cut from k keys false e d off nf h c ih =
         let h2 = behind key k keys e h in
         let not_before = before_in (λ x. from ≢ x) (Some k) keys (Some key) c.1.1 h2 (off k (here k keys)) (λ j m. off j (there j k keys m)) in
-        let not_after = after_off from k key keys d.0 c.1.1 h2 in
-        (cut.nexts from not_before nf ∙ c.0,
-        (cut.previouses (Some k) (λ q. not_after (sym q)) (λ q. differ k key e (ap key_in q)) ∙ c.1.0, ih h2))
+        let not_after = after_off from k key keys d.0 c.1.1 h2 in (
+          cut.nexts from not_before nf ∙ c.0,
+          (cut.previouses (Some k) (λ q. not_after (sym q)) (λ q. differ k key e (ap key_in q)) ∙ c.1.0, ih h2),
+        )
 
     pub cut_chain : (key : ℕ) → IsCut key → (from : Option ℕ) (keys : List ℕ) → Distinct keys → Off from keys → from ≢ Some key → has key keys ≡ true → Chain A B from keys → Chain C D from (without key keys)
     cut_chain key cut from [] d off nf h c = absurd (true≢false (sym h))
@@ -149,30 +158,43 @@ module _ (A B : Option ℕ → Option ℕ) where
     put_last key put from [] d off nf n c = (ap C (sym c.1) ∙ put.before_it, (put.its_previous ∙ c.1, (put.its_next, put.after_it)))
     put_last key put from (k ∷ keys) d off nf n c =
         let a = absent key k keys n in
-        let not_before = before_in (λ x. from ≢ x) (Some k) keys None c.1.1 refl (off k (here k keys)) (λ j m. off j (there j k keys m)) in
-        (put.nexts from not_before nf ∙ c.0,
-        (put.previouses (Some k) (λ q. none-some k (sym q)) (λ q. a.0 (ap key_in q)) ∙ c.1.0,
-        put_last key put (Some k) keys d.1 (off_key k keys d.0) (λ q. a.0 (ap key_in q)) a.1 c.1.1))
+        let not_before = before_in (λ x. from ≢ x) (Some k) keys None c.1.1 refl (off k (here k keys)) (λ j m. off j (there j k keys m)) in (
+          put.nexts from not_before nf ∙ c.0,
+          (
+            put.previouses (Some k) (λ q. none-some k (sym q)) (λ q. a.0 (ap key_in q)) ∙ c.1.0,
+            put_last key put (Some k) keys d.1 (off_key k keys d.0) (λ q. a.0 (ap key_in q)) a.1 c.1.1,
+          ),
+        )
 
     put_go : (o key : ℕ) → IsPut (Some o) key → (from : Option ℕ) (k : ℕ) (keys : List ℕ) (b : Bool) → (k == o) ≡ b → Distinct (k ∷ keys) → Off from (k ∷ keys) → from ≢ Some key → has key (k ∷ keys) ≡ false → has o (k ∷ keys) ≡ true → Chain A B from (k ∷ keys)
         → (has o keys ≡ true → Chain C D (Some k) (put_before o key keys)) → Chain C D from (if b then key ∷ k ∷ keys else k ∷ put_before o key keys)
     put_go o key put from k keys true e d off nf n h c ih =
         let is : k ≡ o = eqb-true k o e in
         let a = absent key k keys n in
-        let prev : B (Some o) ≡ from = ap (λ (i : ℕ). B (Some i)) (sym is) ∙ c.1.0 in
-        (ap C (sym prev) ∙ put.before_it, (put.its_previous ∙ prev,
-        (put.its_next ∙ ap (λ (i : ℕ). Some i) (sym is), (ap (λ (i : ℕ). D (Some i)) is ∙ put.after_it,
-        chain_same (Some k) keys c.1.1
-        (put.nexts (Some k) (λ q. off k (here k keys) (sym prev ∙ sym q)) (λ q. a.0 (ap key_in q)))
-        (λ j m. put.nexts (Some j) (λ q. off j (there j k keys m) (sym prev ∙ sym q)) (λ q. other j key keys m a.1 (ap key_in q)))
-        (put.previouses None (none-some o) (none-some key))
-        (λ j m. put.previouses (Some j) (λ q. other j k keys m d.0 (ap key_in q ∙ sym is)) (λ q. other j key keys m a.1 (ap key_in q)))))))
+        let prev : B (Some o) ≡ from = ap (λ (i : ℕ). B (Some i)) (sym is) ∙ c.1.0 in (
+          ap C (sym prev) ∙ put.before_it,
+          (
+            put.its_previous ∙ prev,
+            (
+              put.its_next ∙ ap (λ (i : ℕ). Some i) (sym is),
+              (
+                ap (λ (i : ℕ). D (Some i)) is ∙ put.after_it,
+                chain_same (Some k) keys c.1.1
+                    (put.nexts (Some k) (λ q. off k (here k keys) (sym prev ∙ sym q)) (λ q. a.0 (ap key_in q)))
+                    (λ j m. put.nexts (Some j) (λ q. off j (there j k keys m) (sym prev ∙ sym q)) (λ q. other j key keys m a.1 (ap key_in q)))
+                    (put.previouses None (none-some o) (none-some key))
+                    (λ j m. put.previouses (Some j) (λ q. other j k keys m d.0 (ap key_in q ∙ sym is)) (λ q. other j key keys m a.1 (ap key_in q))),
+              ),
+            ),
+          ),
+        )
     put_go o key put from k keys false e d off nf n h c ih =
         let h2 = behind o k keys e h in
         let a = absent key k keys n in
-        let not_before = before_in (λ x. from ≢ x) (Some k) keys (Some o) c.1.1 h2 (off k (here k keys)) (λ j m. off j (there j k keys m)) in
-        (put.nexts from not_before nf ∙ c.0,
-        (put.previouses (Some k) (λ q. differ k o e (ap key_in q)) (λ q. a.0 (ap key_in q)) ∙ c.1.0, ih h2))
+        let not_before = before_in (λ x. from ≢ x) (Some k) keys (Some o) c.1.1 h2 (off k (here k keys)) (λ j m. off j (there j k keys m)) in (
+          put.nexts from not_before nf ∙ c.0,
+          (put.previouses (Some k) (λ q. differ k o e (ap key_in q)) (λ q. a.0 (ap key_in q)) ∙ c.1.0, ih h2),
+        )
 
     put_there : (o key : ℕ) → IsPut (Some o) key → (from : Option ℕ) (keys : List ℕ) → Distinct keys → Off from keys → from ≢ Some key → has key keys ≡ false → has o keys ≡ true → Chain A B from keys → Chain C D from (put_before o key keys)
     put_there o key put from [] d off nf n h c = absurd (true≢false (sym h))

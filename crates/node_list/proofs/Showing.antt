@@ -1,5 +1,5 @@
 -- What nodes and ends show after each call.
-use Rattle.std.proofs.Common.{◌≡◌, ◌≢◌, ◌⊎◌, ℕ, zero, suc, ◌+◌, ◌-◌, ◌<◌, ◌≤◌, ◌==◌, Bool, true, false, if◌then◌else◌, List, [], ◌∷◌, ◌++◌, length, map, replicate, Option, None, Some, is_some, cond, IsSome, IfSome, inl, inr, sym, ap, ◌∙◌, subst, refl, arith, slice_index_or, slice_set}
+use Rattle.std.proofs.Common.{◌≡◌, ◌≢◌, ◌⊎◌, ℕ, zero, suc, ◌+◌, ◌-◌, ◌<◌, ◌≤◌, Bool, true, false, List, [], ◌∷◌, ◌++◌, length, map, replicate, Option, None, Some, is_some, cond, IsSome, IfSome, inl, inr, sym, ap, ◌∙◌, subst, refl, arith, slice_index_or, slice_set}
 use Rattle.std.proofs.lemmas.Bool.{true≢false, cases_lt, cases_eq}
 use Rattle.std.proofs.lemmas.Option.{none-some}
 use Rattle.std.proofs.lemmas.List.{length-set, length-map, get_or-set_same, get_or-set_other, get_or_past, get_or_default, ext_get_or, map-set, length-append, length-replicate, get_or-replicate}
@@ -12,11 +12,11 @@ use Rattle.node_list.specs.declared.links.Place.{Place}
 use Rattle.node_list.specs.declared.links.Ends.{Ends}
 use Rattle.node_list.specs.declared.links.Node.{Node}
 use Rattle.node_list.specs.Keys.{has, without, put_before, first_of, next_in, list_at, Distinct}
-use Rattle.node_list.specs.Links.{place_in, place_at, item_in, item_slots, next_of, previous_of, list_of, no_ends, ends_at, after, before, Chain, Spells, walks, placed, with_next, first_set, with_previous, last_set, joined, ends_joined, put_in, ends_put, IsListed}
-use Rattle.node_list.specs.Lists.{Listed, item_at, IsLive, IsFree, Puts, listed, Shows, IsSound}
+use Rattle.node_list.specs.Links.{place_in, place_at, item_in, item_slots, next_of, list_of, no_ends, ends_at, after, before, Chain, Spells, placed, with_next, with_previous, joined, ends_joined, put_in, ends_put, IsListed}
+use Rattle.node_list.specs.Lists.{Listed, IsLive, IsFree, Puts, listed, Shows, IsSound}
 use Rattle.node_list.proofs.Keys.{put_at, is_spot, before_absent}
-use Rattle.node_list.proofs.Chains.{key_in, chain_first, chain_next, chain_same}
-use Rattle.node_list.proofs.Spelling.{placed_here, placed_other, spells_same, in_none, in_bound, listed_below, none_spells, cut_spells, put_spells, walks_are, set_length, put_list_is, joined_list_is, next_listed, first_listed, in_one}
+use Rattle.node_list.proofs.Chains.{chain_first, chain_next, chain_same}
+use Rattle.node_list.proofs.Spelling.{placed_here, placed_other, spells_same, in_bound, listed_below, none_spells, cut_spells, put_spells, walks_are, set_length, put_list_is, joined_list_is, next_listed, first_listed, in_one}
 
 -- ---- changes that go by key
 
@@ -44,8 +44,9 @@ put_same key p f g j e =
 
 replicate_at : {A : Type 0} (n : ℕ) (d : A) (i : ℕ) → slice_index_or (replicate n d) i d ≡ d
 replicate_at n d i = elim (cases_lt i n) [
-  inl lt ↦ get_or-replicate n i d d lt
-  | inr ge ↦ get_or_past (replicate n d) i d (subst (λ (m : ℕ). m ≤ i) (sym (length-replicate n d)) ge) ]
+  | inl lt ↦ get_or-replicate n i d d lt
+  | inr ge ↦ get_or_past (replicate n d) i d (subst (λ (m : ℕ). m ≤ i) (sym (length-replicate n d)) ge)
+]
 
 pub grown_at : {A : Type 0} (xs : List A) (n : ℕ) (d : A) (i : ℕ) → slice_index_or (xs ++ replicate n d) i d ≡ slice_index_or xs i d
 grown_at [] n d i = replicate_at n d i ∙ sym (get_or_past [] i d (omega arith))
@@ -57,7 +58,6 @@ grown_length xs n d = length-append xs (replicate n d) ∙ ap (λ (m : ℕ). len
 
 count_map : {A : Type 0} (xs : List (Option A)) → count_by (λ b. b) (map is_some xs) ≡ count_by is_some xs
 count_map xs = fold-map (λ (n : ℕ) (b : Bool). n + cond b 1 0) is_some 0 xs
-
 
 -- ---- one lane
 
@@ -107,11 +107,11 @@ module _ (f : ℕ → Option Place) (ends : List Ends) (lists : List (List ℕ))
       let put = put_before other key (list_at lists l) in
       ext_get_or [] (map (λ keys. put_before other key keys) lists) (slice_set lists l put) (length-map lists (λ keys. put_before other key keys) ∙ sym (length-set lists l put))
       (λ i lt. map_at (λ keys. put_before other key keys) lists i [] ∙ befores_at i (subst (λ (m : ℕ). i < m) (length-map lists (λ keys. put_before other key keys)) lt) (cases_eq i l)) where
-    befores_at : (i : ℕ) → i < length lists → (i ≡ l) ⊎ (i ≢ l) → put_before other key (list_at lists i) ≡ slice_index_or (slice_set lists l (put_before other key (list_at lists l))) i []
-    befores_at i lt (inl q) =
-        subst (λ (m : ℕ). put_before other key (list_at lists m) ≡ slice_index_or (slice_set lists l (put_before other key (list_at lists l))) m []) (sym q)
-        (sym (get_or-set_same lists l (put_before other key (list_at lists l)) [] (subst (λ (m : ℕ). m < length lists) q lt)))
-    befores_at i lt (inr d) = before_absent other key (list_at lists i) (in_one f ends lists s other l i e d) ∙ sym (get_or-set_other lists l i (put_before other key (list_at lists l)) [] d)
+        befores_at : (i : ℕ) → i < length lists → (i ≡ l) ⊎ (i ≢ l) → put_before other key (list_at lists i) ≡ slice_index_or (slice_set lists l (put_before other key (list_at lists l))) i []
+        befores_at i lt (inl q) =
+            subst (λ (m : ℕ). put_before other key (list_at lists m) ≡ slice_index_or (slice_set lists l (put_before other key (list_at lists l))) m []) (sym q)
+            (sym (get_or-set_same lists l (put_before other key (list_at lists l)) [] (subst (λ (m : ℕ). m < length lists) q lt)))
+        befores_at i lt (inr d) = before_absent other key (list_at lists i) (in_one f ends lists s other l i e d) ∙ sym (get_or-set_other lists l i (put_before other key (list_at lists l)) [] d)
 
 -- ---- more lists
 
@@ -181,8 +181,9 @@ module _ {T : Type 0} where
 
   key_below : (nodes : Slab (Node T)) (lane key i : ℕ) → list_of (place_at nodes lane key) ≡ Some i → key < length nodes.slots
   key_below nodes lane key i e = elim (cases_lt key (length nodes.slots)) [
-    inl lt ↦ lt
-    | inr ge ↦ absurd (none-some i (sym (ap (λ (o : Option (Node T)). list_of (place_in lane o)) (get_or_past nodes.slots key None ge)) ∙ e)) ]
+    | inl lt ↦ lt
+    | inr ge ↦ absurd (none-some i (sym (ap (λ (o : Option (Node T)). list_of (place_in lane o)) (get_or_past nodes.slots key None ge)) ∙ e))
+  ]
 
   module _ (nodes : Slab (Node T)) (ends held_ends : List Ends) (lists held_lists : List (List ℕ)) (shows : Shows nodes ends held_ends lists held_lists) where
     pub lists_are : (listed nodes ends held_ends).lists ≡ lists
@@ -222,7 +223,7 @@ module _ {T : Type 0} where
         let lt : holder < length held_ends = subst (λ (n : ℕ). holder < n) sound.held.count within in
         let at : x ≡ ends_at held_ends holder = is ∙ get_or_default held_ends holder x no_ends lt in
         let spells = put_is (place_at nodes 1) held_ends before_call.held sound.held key (free_is (place_at nodes 1) held_ends before_call.held sound.held key free) holder lt None refl
-            (record { list = holder; previous = x.last; next = None }) (ap (λ (y : Ends). record { list = holder; previous = y.last; next = None }) at) (place_at nodes2 1) places in
+        (record { list = holder; previous = x.last; next = None }) (ap (λ (y : Ends). record { list = holder; previous = y.last; next = None }) at) (place_at nodes2 1) places in
         held_shows held2 _ lanes (subst (λ (es : List Ends). Spells (place_at nodes2 1) es (slice_set before_call.held holder (list_at before_call.held holder ++ key ∷ []))) (sym e) spells)
         (ap length e ∙ put_ends_length held_ends key (record { list = holder; previous = x.last; next = None }) lt)
 
@@ -239,8 +240,9 @@ module _ {T : Type 0} where
   -- nothing is placed by a node with no places
   new_place_is : (nodes nodes2 : Slab (Node T)) (key : ℕ) (item : T) → get nodes key ≡ None → Updates nodes nodes2 key (Some (record { item = item; places = None ∷ None ∷ [] })) → (lane : ℕ) → slice_index_or {A = Option Place} (None ∷ None ∷ []) lane None ≡ None → (j : ℕ) → place_at nodes2 lane j ≡ place_at nodes lane j
   new_place_is nodes nodes2 key item vacant updates lane none j = elim (cases_eq j key) [
-    inl q ↦ subst (λ (m : ℕ). place_at nodes2 lane m ≡ place_at nodes lane m) (sym q) ((ap (place_in lane) updates.changed ∙ none) ∙ sym (ap (place_in lane) vacant))
-    | inr d ↦ ap (place_in lane) (updates.others j d) ]
+    | inl q ↦ subst (λ (m : ℕ). place_at nodes2 lane m ≡ place_at nodes lane m) (sym q) ((ap (place_in lane) updates.changed ∙ none) ∙ sym (ap (place_in lane) vacant))
+    | inr d ↦ ap (place_in lane) (updates.others j d)
+  ]
 
   pub puts_is : (nodes nodes2 nodes3 : Slab (Node T)) (ends held_ends ends2 : List Ends) (key : ℕ) (item : T) → get nodes key ≡ None → Updates nodes nodes2 key (Some (record { item = item; places = None ∷ None ∷ [] })) → item_slots nodes3 ≡ item_slots nodes2
       → Puts (listed nodes ends held_ends) (listed nodes3 ends2 held_ends) key item
@@ -269,9 +271,9 @@ module _ {T : Type 0} where
           as_many = sound.as_many ∙ sym (ap length e ∙ put_ends_length ends key p (subst (λ (m : ℕ). m < length ends) (sym (ap (λ (q : Place). q.list) is)) lt));
           all = all_by nodes2 nodes3 items (λ k live. subst IsSome (sym (ap list_of (puts k) ∙ put_list_is (place_at nodes 0) key p k)) (put_all k live (cases_eq k key)));
         } where
-      put_all : (k : ℕ) → IsSome (get nodes2 k) → (k ≡ key) ⊎ (k ≢ key) → IsSome (list_of (placed key (Some p) (place_at nodes 0) k))
-      put_all k live (inl q) = subst (λ (m : ℕ). IsSome (list_of (placed key (Some p) (place_at nodes 0) m))) (sym q) (subst (λ (o : Option Place). IsSome (list_of o)) (sym (placed_here (place_at nodes 0) key (Some p))) refl)
-      put_all k live (inr d) = subst (λ (o : Option Place). IsSome (list_of o)) (sym (placed_other (place_at nodes 0) key (Some p) k d)) (sound.all k (subst IsSome (updates.others k d) live))
+          put_all : (k : ℕ) → IsSome (get nodes2 k) → (k ≡ key) ⊎ (k ≢ key) → IsSome (list_of (placed key (Some p) (place_at nodes 0) k))
+          put_all k live (inl q) = subst (λ (m : ℕ). IsSome (list_of (placed key (Some p) (place_at nodes 0) m))) (sym q) (subst (λ (o : Option Place). IsSome (list_of o)) (sym (placed_here (place_at nodes 0) key (Some p))) refl)
+          put_all k live (inr d) = subst (λ (o : Option Place). IsSome (list_of o)) (sym (placed_other (place_at nodes 0) key (Some p) k d)) (sound.all k (subst IsSome (updates.others k d) live))
 
   -- ---- a node is taken out
 
@@ -281,8 +283,9 @@ module _ {T : Type 0} where
 
     gone_is : (lane j : ℕ) → place_at nodes2 lane j ≡ placed key None (place_at nodes lane) j
     gone_is lane j = elim (cases_eq j key) [
-      inl q ↦ subst (λ (m : ℕ). place_at nodes2 lane m ≡ placed key None (place_at nodes lane) m) (sym q) (ap (place_in lane) updates.changed ∙ sym (placed_here (place_at nodes lane) key None))
-      | inr d ↦ ap (place_in lane) (updates.others j d) ∙ sym (placed_other (place_at nodes lane) key None j d) ]
+      | inl q ↦ subst (λ (m : ℕ). place_at nodes2 lane m ≡ placed key None (place_at nodes lane) m) (sym q) (ap (place_in lane) updates.changed ∙ sym (placed_here (place_at nodes lane) key None))
+      | inr d ↦ ap (place_in lane) (updates.others j d) ∙ sym (placed_other (place_at nodes lane) key None j d)
+    ]
 
     pub unlink_shows : (p q : Option Place) → place_at nodes 0 key ≡ p → place_at nodes 1 key ≡ q → (ends2 held2 : List Ends)
         → ((j : ℕ) → place_at nodes3 0 j ≡ joined p (place_at nodes2 0) j) → ((j : ℕ) → place_at nodes3 1 j ≡ place_at nodes2 1 j) → ends2 ≡ ends_joined p ends
@@ -298,9 +301,9 @@ module _ {T : Type 0} where
               ∙ (sound.as_many ∙ sym (ap length e ∙ joined_ends_length ends p (is_listed (place_at nodes 0) ends before_cut.lists sound.order key p p_is)));
           all = all_by nodes2 nodes4 items (λ k live. subst IsSome (sym (ap list_of (cuts k) ∙ joined_list_is (placed key None (place_at nodes 0)) p k)) (cut_all k live (cases_eq k key)));
         } where
-      cut_all : (k : ℕ) → IsSome (get nodes2 k) → (k ≡ key) ⊎ (k ≢ key) → IsSome (list_of (placed key None (place_at nodes 0) k))
-      cut_all k live (inl r) = absurd (true≢false (sym (subst IsSome (ap (get nodes2) r ∙ updates.changed) live)))
-      cut_all k live (inr d) = subst (λ (o : Option Place). IsSome (list_of o)) (sym (placed_other (place_at nodes 0) key None k d)) (sound.all k (subst IsSome (updates.others k d) live))
+          cut_all : (k : ℕ) → IsSome (get nodes2 k) → (k ≡ key) ⊎ (k ≢ key) → IsSome (list_of (placed key None (place_at nodes 0) k))
+          cut_all k live (inl r) = absurd (true≢false (sym (subst IsSome (ap (get nodes2) r ∙ updates.changed) live)))
+          cut_all k live (inr d) = subst (λ (o : Option Place). IsSome (list_of o)) (sym (placed_other (place_at nodes 0) key None k d)) (sound.all k (subst IsSome (updates.others k d) live))
 
   -- ---- room
 
@@ -392,9 +395,10 @@ module _ {T : Type 0} where
       → (x.first ≡ first_of (list_at lists l)) × IfSome x.first (λ j. ContainsKey nodes j)
   first_live nodes lane ends lists s l within x is =
       let lt : l < length ends = subst (λ (m : ℕ). l < m) s.count within in
-      let at : x.first ≡ (ends_at ends l).first = ap (λ (e : Ends). e.first) (is ∙ get_or_default ends l x no_ends lt) in
-      (at ∙ first_is (place_at nodes lane) ends lists s l lt,
-      if_some x.first (λ j. ContainsKey nodes j) (λ j q. listed_live nodes lane j l (first_listed (place_at nodes lane) ends lists s l lt j (sym at ∙ q))))
+      let at : x.first ≡ (ends_at ends l).first = ap (λ (e : Ends). e.first) (is ∙ get_or_default ends l x no_ends lt) in (
+        at ∙ first_is (place_at nodes lane) ends lists s l lt,
+        if_some x.first (λ j. ContainsKey nodes j) (λ j q. listed_live nodes lane j l (first_listed (place_at nodes lane) ends lists s l lt j (sym at ∙ q))),
+      )
 
   pub next_live : (nodes : Slab (Node T)) (ends held_ends : List Ends) → IsSound nodes ends held_ends → (key : ℕ) → ContainsKey nodes key → (p : Place) → place_at nodes 0 key ≡ Some p → IfSome p.next (λ j. ContainsKey nodes j)
   next_live nodes ends held_ends sound key live p is =

@@ -1,15 +1,15 @@
 -- What places and ends spell after a key is cut out or put in.
-use Rattle.std.proofs.Common.{◌≡◌, ◌≢◌, ℕ, zero, suc, ◌+◌, ◌<◌, ◌≤◌, ◌==◌, ◌||◌, ◌⊎◌, Bool, true, false, if◌then◌else◌, List, [], ◌∷◌, ◌++◌, length, map, Option, None, Some, inl, inr, sym, ap, ◌∙◌, subst, refl, arith, slice_index_or, slice_set}
-use Rattle.std.proofs.lemmas.Bool.{eqb-true, true≢false, cases_lt, cases_eq, cases_Bool}
+use Rattle.std.proofs.Common.{◌≡◌, ◌≢◌, ℕ, zero, suc, ◌<◌, ◌≤◌, ◌==◌, ◌⊎◌, Bool, true, false, if◌then◌else◌, List, [], ◌∷◌, length, map, Option, None, Some, inl, inr, sym, ap, ◌∙◌, subst, refl, arith, slice_set}
+use Rattle.std.proofs.lemmas.Bool.{true≢false, cases_lt, cases_eq}
 use Rattle.std.proofs.lemmas.Option.{none-some}
 use Rattle.std.proofs.lemmas.List.{length-set, length-map, get_or-set_same, get_or-set_other, get_or_past, get_or-map, ext_get_or}
 use Rattle.std.proofs.Math.ListN.{get_or-map as map_at}
 use Rattle.node_list.specs.declared.links.Place.{Place}
 use Rattle.node_list.specs.declared.links.Ends.{Ends}
-use Rattle.node_list.specs.Keys.{has, Distinct, without, put_before, first_of, next_in, list_at}
+use Rattle.node_list.specs.Keys.{has, Distinct, without, list_at}
 use Rattle.node_list.specs.Links.{next_of, previous_of, list_of, no_ends, ends_at, after, before, Chain, Spells, walk, walks, placed, next_by, previous_by, with_next, first_set, with_previous, last_set, joined, ends_joined, put_in, ends_put}
-use Rattle.node_list.proofs.Keys.{same, apart, differ, here, there, other, behind, absent, without_absent, has_without, has_out, from_without, distinct_without, few, put_at, is_spot, in_put, has_put, distinct_put}
-use Rattle.node_list.proofs.Chains.{key_in, Off, off_none, before_in, after_in, previous_apart, next_apart, chain_same, IsCut, cut_chain, IsPut, put_chain}
+use Rattle.node_list.proofs.Keys.{same, apart, here, other, without_absent, has_without, has_out, from_without, distinct_without, few, put_at, is_spot, in_put, has_put, distinct_put}
+use Rattle.node_list.proofs.Chains.{key_in, off_none, before_in, after_in, previous_apart, next_apart, chain_same, IsCut, cut_chain, IsPut, put_chain}
 
 -- ---- changes of a place
 
@@ -213,8 +213,9 @@ bool_false false f = refl
 module _ (f : ℕ → Option Place) (ends : List Ends) (lists : List (List ℕ)) (s : Spells f ends lists) where
   pub in_bound : (l key : ℕ) → has key (list_at lists l) ≡ true → l < length ends
   in_bound l key h = elim (cases_lt l (length lists)) [
-      inl lt ↦ subst (λ (m : ℕ). l < m) s.count lt
-      | inr ge ↦ absurd (true≢false (sym h ∙ ap (λ (ks : List ℕ). has key ks) (get_or_past lists l [] ge))) ]
+    | inl lt ↦ subst (λ (m : ℕ). l < m) s.count lt
+    | inr ge ↦ absurd (true≢false (sym h ∙ ap (λ (ks : List ℕ). has key ks) (get_or_past lists l [] ge)))
+  ]
 
   pub listed_below : (l key : ℕ) → list_of (f key) ≡ Some l → l < length ends
   listed_below l key e = in_bound l key (s.covers l key e)
@@ -313,12 +314,13 @@ module _ (f : ℕ → Option Place) (ends : List Ends) (lists : List (List ℕ))
 
     cut_lists_at : (i : ℕ) → i < length ends → Chain (after cut_f cut_ends i) (before cut_f cut_ends i) None (without key (list_at lists i))
     cut_lists_at i lt = elim (cases_eq place.list i) [
-      inl q ↦ subst (λ (m : ℕ). Chain (after cut_f cut_ends m) (before cut_f cut_ends m) None (without key (list_at lists m))) q
+      | inl q ↦ subst (λ (m : ℕ). Chain (after cut_f cut_ends m) (before cut_f cut_ends m) None (without key (list_at lists m))) q
           (cut_chain (after f ends place.list) (before f ends place.list) (after cut_f cut_ends place.list) (before cut_f cut_ends place.list) key is_cut None (list_at lists place.list) (s.distinct place.list) (off_none (list_at lists place.list)) (none-some key) cut_in cut_links)
       | inr d ↦ let n = in_one key place.list i (ap list_of e) (λ q. d (sym q)) in
           subst (Chain (after cut_f cut_ends i) (before cut_f cut_ends i) None) (sym (without_absent key (list_at lists i) n))
           (far_chain gone ends place.list cut_lt place.previous place.next place.next place.previous cut_previous cut_next i (λ q. d (sym q)) f (list_at lists i) (s.listed i)
-          (λ k h. placed_other f key None k (other k key (list_at lists i) h n)) (s.chains i lt)) ]
+          (λ k h. placed_other f key None k (other k key (list_at lists i) h n)) (s.chains i lt))
+    ]
 
     cut_list : (j : ℕ) → list_of (cut_f j) ≡ list_of (gone j)
     cut_list j = both_list gone ends place.list cut_lt place.previous place.next place.next place.previous cut_previous cut_next j
@@ -352,9 +354,9 @@ module _ (f : ℕ → Option Place) (ends : List Ends) (lists : List (List ℕ))
   none_spells key e =
       subst (Spells (placed key None f) ends) (sym (none_lists key (in_none key e)))
       (spells_same (placed key None f) (λ j. gone_go j (cases_eq j key))) where
-    gone_go : (j : ℕ) → (j ≡ key) ⊎ (j ≢ key) → placed key None f j ≡ f j
-    gone_go j (inl q) = ap (placed key None f) q ∙ (placed_here f key None ∙ (sym e ∙ ap f (sym q)))
-    gone_go j (inr d) = placed_other f key None j d
+        gone_go : (j : ℕ) → (j ≡ key) ⊎ (j ≢ key) → placed key None f j ≡ f j
+        gone_go j (inl q) = ap (placed key None f) q ∙ (placed_here f key None ∙ (sym e ∙ ap f (sym q)))
+        gone_go j (inr d) = placed_other f key None j d
 
   -- ---- a key is put in before a spot
 
@@ -429,13 +431,14 @@ module _ (f : ℕ → Option Place) (ends : List Ends) (lists : List (List ℕ))
 
     put_lists_at : (i : ℕ) → i < length ends → Chain (after put_f new_ends i) (before put_f new_ends i) None (list_at put_lists i)
     put_lists_at i less = elim (cases_eq l i) [
-      inl q ↦ subst (λ (m : ℕ). Chain (after put_f new_ends m) (before put_f new_ends m) None (list_at put_lists m)) q
+      | inl q ↦ subst (λ (m : ℕ). Chain (after put_f new_ends m) (before put_f new_ends m) None (list_at put_lists m)) q
           (subst (Chain (after put_f new_ends l) (before put_f new_ends l) None) (sym put_here)
           (put_chain (after f ends l) (before f ends l) (after put_f new_ends l) (before put_f new_ends l) spot key is_put None (list_at lists l) (s.distinct l) (off_none (list_at lists l)) (none-some key) (put_absent l) on put_links))
       | inr d ↦
           subst (Chain (after put_f new_ends i) (before put_f new_ends i) None) (sym (put_far i (λ q. d (sym q))))
           (far_chain come ends l lt (before f ends l spot) spot (Some key) (Some key) put_previous put_next i (λ q. d (sym q)) f (list_at lists i) (s.listed i)
-          (come_listed i) (s.chains i less)) ]
+          (come_listed i) (s.chains i less))
+    ]
 
     put_list : (j : ℕ) → list_of (put_f j) ≡ list_of (come j)
     put_list j = both_list come ends l lt (before f ends l spot) spot (Some key) (Some key) put_previous put_next j
@@ -445,32 +448,37 @@ module _ (f : ℕ → Option Place) (ends : List Ends) (lists : List (List ℕ))
 
     put_distinct : (i : ℕ) → Distinct (list_at put_lists i)
     put_distinct i = elim (cases_eq l i) [
-      inl q ↦ subst (λ (m : ℕ). Distinct (list_at put_lists m)) q (subst Distinct (sym put_here) (distinct_put spot key (list_at lists l) (put_absent l) (s.distinct l)))
-      | inr d ↦ subst Distinct (sym (put_far i (λ q. d (sym q)))) (s.distinct i) ]
+      | inl q ↦ subst (λ (m : ℕ). Distinct (list_at put_lists m)) q (subst Distinct (sym put_here) (distinct_put spot key (list_at lists l) (put_absent l) (s.distinct l)))
+      | inr d ↦ subst Distinct (sym (put_far i (λ q. d (sym q)))) (s.distinct i)
+    ]
 
     put_listed : (i k : ℕ) → has k (list_at put_lists i) ≡ true → list_of (put_f k) ≡ Some i
     put_listed i k h = elim (cases_eq l i) [
-      inl q ↦ elim (cases_eq k key) [
-        inl r ↦ put_list k ∙ (ap (λ (m : ℕ). list_of (come m)) r ∙ (ap list_of (placed_here f key (Some new_place)) ∙ ap (λ (m : ℕ). Some m) q))
+      | inl q ↦ elim (cases_eq k key) [
+        | inl r ↦ put_list k ∙ (ap (λ (m : ℕ). list_of (come m)) r ∙ (ap list_of (placed_here f key (Some new_place)) ∙ ap (λ (m : ℕ). Some m) q))
         | inr n ↦
             let h2 : has k (list_at lists l) ≡ true = sym (has_put spot key k (list_at lists l) n) ∙ (sym (ap (λ (ks : List ℕ). has k ks) put_here) ∙ (ap (λ (m : ℕ). has k (list_at put_lists m)) q ∙ h)) in
-            put_list k ∙ (ap list_of (come_listed l k h2) ∙ (s.listed l k h2 ∙ ap (λ (m : ℕ). Some m) q)) ]
+            put_list k ∙ (ap list_of (come_listed l k h2) ∙ (s.listed l k h2 ∙ ap (λ (m : ℕ). Some m) q))
+      ]
       | inr d ↦
           let h2 : has k (list_at lists i) ≡ true = sym (ap (λ (ks : List ℕ). has k ks) (put_far i (λ q. d (sym q)))) ∙ h in
-          put_list k ∙ (ap list_of (come_listed i k h2) ∙ s.listed i k h2) ]
+          put_list k ∙ (ap list_of (come_listed i k h2) ∙ s.listed i k h2)
+    ]
 
     put_covers : (i k : ℕ) → list_of (put_f k) ≡ Some i → has k (list_at put_lists i) ≡ true
     put_covers i k q = elim (cases_eq k key) [
-      inl r ↦
-        let il : l ≡ i = ap key_in (sym (ap (λ (m : ℕ). list_of (come m)) r ∙ ap list_of (placed_here f key (Some new_place))) ∙ (sym (put_list k) ∙ q)) in
-        subst (λ (m : ℕ). has k (list_at put_lists m) ≡ true) il
-        (ap (λ (m : ℕ). has m (list_at put_lists l)) r ∙ (ap (λ (ks : List ℕ). has key ks) put_here ∙ in_put spot key (list_at lists l) on))
+      | inl r ↦
+          let il : l ≡ i = ap key_in (sym (ap (λ (m : ℕ). list_of (come m)) r ∙ ap list_of (placed_here f key (Some new_place))) ∙ (sym (put_list k) ∙ q)) in
+          subst (λ (m : ℕ). has k (list_at put_lists m) ≡ true) il
+          (ap (λ (m : ℕ). has m (list_at put_lists l)) r ∙ (ap (λ (ks : List ℕ). has key ks) put_here ∙ in_put spot key (list_at lists l) on))
       | inr n ↦
-        let h : has k (list_at lists i) ≡ true = s.covers i k (sym (ap list_of (placed_other f key (Some new_place) k n)) ∙ (sym (put_list k) ∙ q)) in
-        elim (cases_eq l i) [
-          inl il ↦ subst (λ (m : ℕ). has k (list_at put_lists m) ≡ true) il
-            (ap (λ (ks : List ℕ). has k ks) put_here ∙ (has_put spot key k (list_at lists l) n ∙ (ap (λ (m : ℕ). has k (list_at lists m)) il ∙ h)))
-          | inr d ↦ ap (λ (ks : List ℕ). has k ks) (put_far i (λ r. d (sym r))) ∙ h ] ]
+          let h : has k (list_at lists i) ≡ true = s.covers i k (sym (ap list_of (placed_other f key (Some new_place) k n)) ∙ (sym (put_list k) ∙ q)) in
+          elim (cases_eq l i) [
+            | inl il ↦ subst (λ (m : ℕ). has k (list_at put_lists m) ≡ true) il
+                (ap (λ (ks : List ℕ). has k ks) put_here ∙ (has_put spot key k (list_at lists l) n ∙ (ap (λ (m : ℕ). has k (list_at lists m)) il ∙ h)))
+            | inr d ↦ ap (λ (ks : List ℕ). has k ks) (put_far i (λ r. d (sym r))) ∙ h
+          ]
+    ]
 
     pub put_spells : Spells put_f new_ends put_lists
     put_spells = record {
@@ -496,6 +504,6 @@ module _ (f : ℕ → Option Place) (ends : List Ends) (lists : List (List ℕ))
   walks_are fuel below =
       ext_get_or [] (walks fuel f ends) lists (length-map ends (λ e. walk fuel f e.first) ∙ sym s.count)
       (λ i lt.
-        let less : i < length ends = subst (λ (m : ℕ). i < m) (length-map ends (λ e. walk fuel f e.first)) lt in
-        get_or-map (λ e. walk fuel f e.first) ends i no_ends [] less
-        ∙ walk_is i fuel None (list_at lists i) (s.chains i less) (few fuel (list_at lists i) (s.distinct i) (λ k h. below k i (s.listed i k h))))
+      let less : i < length ends = subst (λ (m : ℕ). i < m) (length-map ends (λ e. walk fuel f e.first)) lt in
+      get_or-map (λ e. walk fuel f e.first) ends i no_ends [] less
+      ∙ walk_is i fuel None (list_at lists i) (s.chains i less) (few fuel (list_at lists i) (s.distinct i) (λ k h. below k i (s.listed i k h))))

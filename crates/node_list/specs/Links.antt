@@ -1,6 +1,6 @@
 -- What nodes and ends spell: lists of keys, linked both ways. A spot of a list is a key, or none for the list's
 -- ends; the first key comes after none, and the last one before none.
-use Rattle.std.specs.Prelude.{◌≡◌, ◌≢◌, ℕ, zero, suc, ◌==◌, ◌<◌, Bool, true, false, if◌then◌else◌, List, [], ◌∷◌, length, map, Option, None, Some, slice_index_or, slice_set}
+use Rattle.std.specs.Prelude.{◌≡◌, ℕ, zero, suc, ◌==◌, ◌<◌, true, if◌then◌else◌, List, [], ◌∷◌, length, map, Option, None, Some, slice_index_or, slice_set}
 use Rattle.slab.specs.Slab.{Slab, get}
 use Rattle.node_list.specs.declared.links.Place.{Place}
 use Rattle.node_list.specs.declared.links.Ends.{Ends}

@@ -5,6 +5,8 @@
 mod links;
 mod lists;
 mod steps;
+#[cfg(test)]
+mod tests;
 
 pub use lists::Lists;
 pub use steps::Steps;

@@ -61,7 +61,14 @@ pub(crate) fn set_place<T>(nodes: &mut Slab<Node<T>>, lane: usize, key: usize, p
 }
 
 /// After a spot of a list comes this one; none is the list's end.
-fn set_next<T>(nodes: &mut Slab<Node<T>>, ends: &mut Vec<Ends>, lane: usize, list: usize, spot: Option<usize>, next: Option<usize>)
+fn set_next<T>(
+    nodes: &mut Slab<Node<T>>,
+    ends: &mut Vec<Ends>,
+    lane: usize,
+    list: usize,
+    spot: Option<usize>,
+    next: Option<usize>,
+)
     requires lane { lane < 2 }
     requires list { list < length ends.old.items }
     ensures places { (j : ℕ) → place_at nodes.new lane j ≡ with_next spot next (place_at nodes.old lane) j }
@@ -74,7 +81,16 @@ fn set_next<T>(nodes: &mut Slab<Node<T>>, ends: &mut Vec<Ends>, lane: usize, lis
     match spot {
         Some(key) => {
             if let Some(place) = place_of(nodes, lane, key) {
-                set_place(nodes, lane, key, Some(Place { list: place.list, previous: place.previous, next }));
+                set_place(
+                    nodes,
+                    lane,
+                    key,
+                    Some(Place {
+                        list: place.list,
+                        previous: place.previous,
+                        next,
+                    }),
+                );
             }
         }
         None => ends[list].first = next,
@@ -82,7 +98,14 @@ fn set_next<T>(nodes: &mut Slab<Node<T>>, ends: &mut Vec<Ends>, lane: usize, lis
 }
 
 /// Before a spot of a list comes this one; none is the list's end.
-fn set_previous<T>(nodes: &mut Slab<Node<T>>, ends: &mut Vec<Ends>, lane: usize, list: usize, spot: Option<usize>, previous: Option<usize>)
+fn set_previous<T>(
+    nodes: &mut Slab<Node<T>>,
+    ends: &mut Vec<Ends>,
+    lane: usize,
+    list: usize,
+    spot: Option<usize>,
+    previous: Option<usize>,
+)
     requires lane { lane < 2 }
     requires list { list < length ends.old.items }
     ensures places { (j : ℕ) → place_at nodes.new lane j ≡ with_previous spot previous (place_at nodes.old lane) j }
@@ -95,7 +118,16 @@ fn set_previous<T>(nodes: &mut Slab<Node<T>>, ends: &mut Vec<Ends>, lane: usize,
     match spot {
         Some(key) => {
             if let Some(place) = place_of(nodes, lane, key) {
-                set_place(nodes, lane, key, Some(Place { list: place.list, previous, next: place.next }));
+                set_place(
+                    nodes,
+                    lane,
+                    key,
+                    Some(Place {
+                        list: place.list,
+                        previous,
+                        next: place.next,
+                    }),
+                );
             }
         }
         None => ends[list].last = previous,
@@ -103,7 +135,12 @@ fn set_previous<T>(nodes: &mut Slab<Node<T>>, ends: &mut Vec<Ends>, lane: usize,
 }
 
 /// Links the neighbours of a place that is gone, where there was one.
-pub(crate) fn join<T>(nodes: &mut Slab<Node<T>>, ends: &mut Vec<Ends>, lane: usize, place: Option<Place>)
+pub(crate) fn join<T>(
+    nodes: &mut Slab<Node<T>>,
+    ends: &mut Vec<Ends>,
+    lane: usize,
+    place: Option<Place>,
+)
     requires lane { lane < 2 }
     requires list { IsListed place (length ends.old.items) }
     ensures places { (j : ℕ) → place_at nodes.new lane j ≡ joined place (place_at nodes.old lane) j }
@@ -120,7 +157,13 @@ pub(crate) fn join<T>(nodes: &mut Slab<Node<T>>, ends: &mut Vec<Ends>, lane: usi
 }
 
 /// Gives a key this place, and lets its neighbours know.
-pub(crate) fn put<T>(nodes: &mut Slab<Node<T>>, ends: &mut Vec<Ends>, lane: usize, key: usize, place: Place)
+pub(crate) fn put<T>(
+    nodes: &mut Slab<Node<T>>,
+    ends: &mut Vec<Ends>,
+    lane: usize,
+    key: usize,
+    place: Place,
+)
     requires lane { lane < 2 }
     requires list { place.list < length ends.old.items }
     requires key { ContainsKey nodes.old key }

@@ -1,11 +1,11 @@
 //! Lists of nodes.
 ghost use Rattle.std.specs.Vec.{vec_len, vec_capacity};
-ghost use Rattle.std.specs.Prelude.{◌≡◌, ◌+◌, ◌<◌, ◌≤◌, ◌++◌, ◌∷◌, ℕ, [], map, length, replicate, Some, None, IsSome, OnOk, OnErr, IfOk, IfSome, true, slice_set};
+ghost use Rattle.std.specs.Prelude.{◌≡◌, ◌+◌, ◌<◌, ◌≤◌, ◌++◌, ◌∷◌, ℕ, [], map, length, replicate, Some, None, IsSome, OnOk, OnErr, IfOk, IfSome, IfNone, is_some, true, slice_set};
 ghost use Rattle.node_list.specs.Keys.{has, without, put_before, first_of, next_in, list_at};
 ghost use Rattle.node_list.specs.Links.{no_ends};
 ghost use Rattle.node_list.specs.Lists.{item_at, IsLive, Puts, IsFree};
 
-use crate::links::{join, place_of, put, set_place, Ends, Node, Place, HELD, LISTED};
+use crate::links::{Ends, HELD, LISTED, Node, Place, join, place_of, put, set_place};
 use crate::steps::Steps;
 use octet_reading::NoMemory;
 use slab::Slab;
@@ -98,6 +98,34 @@ impl<T> Lists<T> {
     {
         self.nodes.reserve(more)?;
         Ok(())
+    }
+
+    /// How many lists there are, and as many holders. Takes no memory.
+    pub fn lists(&self) -> usize
+        ensures lists { result ≡ length self.now.lists }
+        ensures held { result ≡ length self.now.held }
+    {
+        self.ends.len()
+    }
+
+    /// Whether the key is one of a node. Takes no memory.
+    pub fn contains(&self, key: usize) -> bool
+        ensures { result ≡ is_some (item_at self.now key) }
+    {
+        self.nodes.contains(key)
+    }
+
+    /// Who holds a node. Takes no memory.
+    pub fn holder<L: Ledger>(&self, key: usize, steps: &mut Steps<L>) -> Option<usize>
+        ensures some { IfSome result (λ holder. has key (list_at self.now.held holder) ≡ true) }
+        ensures none { IfNone result (IsFree self.now key) }
+        ensures steps { steps.new ≡ steps.old + 1 }
+    {
+        steps.tick();
+        match place_of(&self.nodes, HELD, key) {
+            Some(place) => Some(place.list),
+            None => None,
+        }
     }
 
     /// The first node of a list. Takes no memory.
@@ -211,7 +239,12 @@ impl<T> Lists<T> {
         steps.tick();
         let node = self.nodes.remove(key);
         join(&mut self.nodes, &mut self.ends, LISTED, node.places[LISTED]);
-        join(&mut self.nodes, &mut self.held_ends, HELD, node.places[HELD]);
+        join(
+            &mut self.nodes,
+            &mut self.held_ends,
+            HELD,
+            node.places[HELD],
+        );
         node.item
     }
 

@@ -1,5 +1,5 @@
 -- The item of the key stays, and so do all the others.
-use Rattle.std.proofs.Common.{◌≡◌, sym, ap, ◌∙◌, None}
+use Rattle.std.proofs.Common.{sym, ap, ◌∙◌, None}
 use Rattle.std.specs.Option.{option_copied_mut}
 use Rattle.std.proofs.Math.Seq.{map-set_same}
 use Rattle.node_list.specs.Links.{item_in}

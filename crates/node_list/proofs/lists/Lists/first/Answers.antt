@@ -1,5 +1,5 @@
 -- The first node is live.
-use Rattle.std.proofs.Common.{◌≡◌, ◌<◌, sym, subst, length, IfSome}
+use Rattle.std.proofs.Common.{◌<◌, sym, subst, length, IfSome}
 use Rattle.node_list.specs.Lists.{Listed, IsLive}
 use Rattle.node_list.proofs.Showing.{first_live, if_live}
 use Rattle.node_list.proofs.lists.Lists.first.Goals as goal

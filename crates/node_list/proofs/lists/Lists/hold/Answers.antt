@@ -1,5 +1,5 @@
 -- The node is the last of its holder's list, and everything else stays.
-use Rattle.std.proofs.Common.{◌≡◌, ◌<◌, ◌++◌, ◌∷◌, [], ℕ, sym, ap, subst, length, slice_set, arith}
+use Rattle.std.proofs.Common.{◌≡◌, ◌<◌, ◌++◌, ◌∷◌, [], ℕ, sym, subst, length, slice_set, arith}
 use Rattle.node_list.specs.Keys.{list_at}
 use Rattle.node_list.specs.Lists.{Listed, IsFree, Shows, listed}
 use Rattle.node_list.proofs.Showing.{lists_are, held_are, sound_is, hold_shows}
@@ -15,8 +15,8 @@ shown g c =
     (subst (λ (v : Listed g.row.T.Denot). c.args.holder < length v.held) (sym c.self.view_is) c.requires.holder)
     (subst (λ (v : Listed g.row.T.Denot). IsFree v c.args.key) (sym c.self.view_is) c.requires.free)
     c.index.result.now c.index.ensures c.put.new.ends.items c.put.ensures.places (c.put.ensures.lanes 0 zero_one) c.put.ensures.ends where
-  zero_one : ◌≡◌ {A = ℕ} 0 1 → ⊥
-  zero_one e = omega (arith, e)
+      zero_one : ◌≡◌ {A = ℕ} 0 1 → ⊥
+      zero_one e = omega (arith, e)
 
 pub invariant_of-self : goal.invariant_of-self
 invariant_of-self g c = sound_is c.put.new.nodes c.self.inside.ends.items c.put.new.ends.items _ _ (shown g c)

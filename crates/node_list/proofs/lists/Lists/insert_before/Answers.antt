@@ -1,7 +1,6 @@
 -- The node stands before the other one, and everything else stays.
-use Rattle.std.proofs.Common.{◌≡◌, ◌<◌, ◌∙◌, ◌++◌, ◌∷◌, [], Option, Some, None, ℕ, sym, ap, subst, length, map, slice_set, refl, arith}
-use Rattle.node_list.specs.declared.links.Place.{Place}
-use Rattle.node_list.specs.Keys.{list_at, put_before}
+use Rattle.std.proofs.Common.{◌≡◌, ◌<◌, ◌∙◌, Option, Some, ℕ, sym, ap, subst, length, map, arith}
+use Rattle.node_list.specs.Keys.{put_before}
 use Rattle.node_list.specs.Links.{place_at, list_of, previous_of}
 use Rattle.node_list.specs.Lists.{Listed, Shows, Puts, listed}
 use Rattle.node_list.proofs.Showing.{lists_are, held_are, sound_is, puts_shows, puts_is, befores_are}
@@ -23,8 +22,8 @@ shown g c =
     (record { list = c.in-Some.other.list; previous = c.in-Some.other.previous; next = Some c.args.key })
     (ap (λ (x : Option ℕ). record { list = c.in-Some.other.list; previous = x; next = Some c.args.key }) (sym (ap previous_of is)))
     c.put.new.ends.items c.put.ensures.places (c.put.ensures.lanes 1 one_zero) c.put.ensures.ends) where
-  one_zero : ◌≡◌ {A = ℕ} 1 0 → ⊥
-  one_zero e = omega (arith, e)
+      one_zero : ◌≡◌ {A = ℕ} 1 0 → ⊥
+      one_zero e = omega (arith, e)
 
 pub put-requires-clause-list : goal.put-requires-clause-list
 put-requires-clause-list g c = listed_below (place_at c.self.inside.nodes 0) c.self.inside.ends.items _ c.self.invariant.order c.in-Some.other.list c.args.key (ap list_of (sym c.place_of.ensures ∙ c.in-Some.is))

@@ -1,7 +1,7 @@
 -- The node is in no holder's list, and everything else stays.
-use Rattle.std.proofs.Common.{◌≡◌, ◌∙◌, None, ℕ, sym, ap, map, arith}
+use Rattle.std.proofs.Common.{◌≡◌, ◌∙◌, None, ℕ, sym, map, arith}
 use Rattle.node_list.specs.Keys.{without}
-use Rattle.node_list.specs.Links.{joined, place_at, placed}
+use Rattle.node_list.specs.Links.{place_at, placed}
 use Rattle.node_list.specs.Lists.{Listed, Shows, listed}
 use Rattle.node_list.proofs.Showing.{lists_are, held_are, sound_is, is_listed, lets_go_shows, joined_same}
 use Rattle.node_list.proofs.lists.Lists.let_go.Given.{Over}
@@ -16,8 +16,8 @@ shown g c =
     c.place_of-place.result (sym c.place_of-place.ensures) c.join.new.ends.items
     (λ j. c.join.ensures.places j ∙ joined_same c.place_of-place.result (place_at c.set_place.new.nodes 1) (placed c.args.key None (place_at c.self.inside.nodes 1)) j (c.set_place.ensures.set j))
     (λ j. c.join.ensures.lanes 0 zero_one j ∙ c.set_place.ensures.lanes 0 zero_one j) c.join.ensures.ends where
-  zero_one : ◌≡◌ {A = ℕ} 0 1 → ⊥
-  zero_one e = omega (arith, e)
+      zero_one : ◌≡◌ {A = ℕ} 0 1 → ⊥
+      zero_one e = omega (arith, e)
 
 pub join-requires-clause-list : goal.join-requires-clause-list
 join-requires-clause-list g c = is_listed (place_at c.self.inside.nodes 1) c.self.inside.held_ends.items _ c.self.invariant.held c.args.key c.place_of-place.result (sym c.place_of-place.ensures)

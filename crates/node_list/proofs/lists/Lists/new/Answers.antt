@@ -1,5 +1,5 @@
 -- All lists are empty.
-use Rattle.std.proofs.Common.{◌≡◌, replicate, [], sym, ap}
+use Rattle.std.proofs.Common.{replicate, []}
 use Rattle.node_list.specs.Lists.{Shows}
 use Rattle.node_list.proofs.Showing.{lists_are, held_are, sound_is, nothing_shows}
 use Rattle.node_list.proofs.lists.Lists.new.Given.{Over}

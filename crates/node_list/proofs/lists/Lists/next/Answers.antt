@@ -1,5 +1,5 @@
 -- The place of the node names the one behind it, which is live.
-use Rattle.std.proofs.Common.{◌≡◌, ◌∙◌, Some, sym, ap, subst, IfSome}
+use Rattle.std.proofs.Common.{◌∙◌, sym, ap, subst, IfSome}
 use Rattle.node_list.specs.Links.{next_of, place_at}
 use Rattle.node_list.specs.Lists.{Listed, IsLive}
 use Rattle.node_list.proofs.Showing.{next_is_in, next_live, if_live, live_is}

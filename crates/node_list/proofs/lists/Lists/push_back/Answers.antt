@@ -1,10 +1,9 @@
 -- The node is the last of its list, and everything else stays.
-use Rattle.std.proofs.Common.{◌≡◌, refl, ◌<◌, ◌∙◌, ◌++◌, ◌∷◌, [], None, ℕ, sym, ap, subst, length, slice_set, slice_index_or, arith}
+use Rattle.std.proofs.Common.{◌≡◌, refl, ◌<◌, ◌∙◌, ◌++◌, ◌∷◌, [], None, ℕ, sym, ap, subst, length, slice_set, arith}
 use Rattle.std.proofs.lemmas.List.{get_or_default}
 use Rattle.node_list.specs.declared.links.Ends.{Ends}
-use Rattle.node_list.specs.declared.links.Place.{Place}
 use Rattle.node_list.specs.Keys.{list_at}
-use Rattle.node_list.specs.Links.{no_ends, ends_at}
+use Rattle.node_list.specs.Links.{no_ends}
 use Rattle.node_list.specs.Lists.{Listed, Shows, Puts, listed}
 use Rattle.node_list.proofs.Showing.{lists_are, held_are, sound_is, puts_shows, puts_is}
 use Rattle.node_list.proofs.lists.Lists.push_back.Given.{Over}
@@ -22,8 +21,8 @@ shown g c =
     (record { list = c.args.list; previous = c.index.result.now.last; next = None })
     (ap (λ (x : Ends). record { list = c.args.list; previous = x.last; next = None }) (c.index.ensures ∙ get_or_default c.self.inside.ends.items c.args.list c.index.result.now no_ends lt))
     c.put.new.ends.items c.put.ensures.places (c.put.ensures.lanes 1 one_zero) c.put.ensures.ends where
-  one_zero : ◌≡◌ {A = ℕ} 1 0 → ⊥
-  one_zero e = omega (arith, e)
+      one_zero : ◌≡◌ {A = ℕ} 1 0 → ⊥
+      one_zero e = omega (arith, e)
 
 pub invariant_of-self : goal.invariant_of-self
 invariant_of-self g c = sound_is c.put.new.nodes c.put.new.ends.items c.self.inside.held_ends.items _ _ (shown g c)

@@ -1,6 +1,4 @@
 -- Only the room changes.
-use Rattle.std.proofs.Common.{◌≡◌, sym, subst}
-use Rattle.node_list.specs.Lists.{Listed, listed}
 use Rattle.node_list.proofs.Showing.{room_sound, room_kept}
 use Rattle.node_list.proofs.lists.Lists.reserve.Goals as goal
 

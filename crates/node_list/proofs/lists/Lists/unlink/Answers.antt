@@ -1,7 +1,6 @@
 -- The node is in no list, and everything else stays.
-use Rattle.std.proofs.Common.{◌≡◌, ◌∙◌, None, ℕ, sym, ap, map, slice_index_or, slice_set, arith}
+use Rattle.std.proofs.Common.{◌≡◌, ◌∙◌, None, ℕ, ap, map, slice_index_or, arith}
 use Rattle.std.proofs.lemmas.List.{map-set}
-use Rattle.node_list.specs.declared.links.Place.{Place}
 use Rattle.node_list.specs.Keys.{without}
 use Rattle.node_list.specs.Links.{place_in, place_at, item_in}
 use Rattle.node_list.specs.Lists.{Listed, Shows, listed}
@@ -17,10 +16,11 @@ shown g c =
     unlink_shows c.self.inside.nodes c.remove-node.new.self c.join.new.nodes c.join-2.new.nodes c.self.inside.ends.items c.self.inside.held_ends.items c.self.invariant c.args.key c.remove-node.ensures.updates (c.join-2.ensures.items ∙ c.join.ensures.items)
     (slice_index_or c.remove-node.result.places 0 None) (slice_index_or c.remove-node.result.places 1 None) (ap (place_in 0) c.remove-node.ensures.value) (ap (place_in 1) c.remove-node.ensures.value)
     c.join.new.ends.items c.join-2.new.ends.items c.join.ensures.places (c.join.ensures.lanes 1 one_zero) c.join.ensures.ends c.join-2.ensures.places (c.join-2.ensures.lanes 0 zero_one) c.join-2.ensures.ends where
-  one_zero : ◌≡◌ {A = ℕ} 1 0 → ⊥
-  one_zero e = omega (arith, e)
-  zero_one : ◌≡◌ {A = ℕ} 0 1 → ⊥
-  zero_one e = omega (arith, e)
+      one_zero : ◌≡◌ {A = ℕ} 1 0 → ⊥
+      one_zero e = omega (arith, e)
+
+      zero_one : ◌≡◌ {A = ℕ} 0 1 → ⊥
+      zero_one e = omega (arith, e)
 
 pub join-requires-clause-list : goal.join-requires-clause-list
 join-requires-clause-list g c = is_listed (place_at c.self.inside.nodes 0) c.self.inside.ends.items _ c.self.invariant.order c.args.key (slice_index_or c.remove-node.result.places 0 None) (ap (place_in 0) c.remove-node.ensures.value)

@@ -1,5 +1,5 @@
 -- There are so many empty lists more.
-use Rattle.std.proofs.Common.{◌≡◌, ◌∙◌, ◌++◌, replicate, [], sym, ap, List}
+use Rattle.std.proofs.Common.{◌∙◌, ◌++◌, replicate, [], ap, List}
 use Rattle.node_list.specs.declared.links.Ends.{Ends}
 use Rattle.node_list.specs.Links.{no_ends}
 use Rattle.node_list.specs.Lists.{Listed, Shows, listed}
