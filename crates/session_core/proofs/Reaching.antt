@@ -1,12 +1,13 @@
 -- Ranges that come while numbers are below 2^62 name none beyond 2^62 + 2^33.
 use Rattle.std.proofs.Common.{◌≡◌, ℕ, ◌+◌, ◌-◌, ◌^◌, ◌%◌, ◌<◌, ◌≤◌, ◌||◌, ◌&&◌, ◌∙◌, refl, max, nat_lt, nat_le, Bool, true, false, if◌then◌else◌, List, [], ◌∷◌, ◌++◌, Option, Some, None, sym, ap, subst, arith, inl, inr}
 use Rattle.std.specs.Option.{option_to_list}
-use Rattle.std.proofs.lemmas.Bool.{cases_Bool, cases_lt, true≢false, leb-true, ltb-true, ltb-false}
+use Rattle.std.proofs.lemmas.Bool.{cases_Bool, cases_lt, true≢false, leb-true, leb-false, ltb-true, ltb-false}
+use Rattle.std.proofs.lemmas.Bool.Decides.{nat_tests}
 use Rattle.amqp_values.specs.declared.value.Range.{Range}
 use Rattle.serial_ranges.specs.Runs.{names, within, AreRanges, IsLeastMissing}
 use Rattle.serial_ranges.specs.Serial.{ahead_of, shifted, width, unwrapped_range}
 use Rattle.history_model.specs.Life.{named}
-use Rattle.session_core.specs.Received.{IsPast}
+use Rattle.session_core.specs.Received.{IsPast, from_on}
 
 mod_lt : (n : ℕ) → n % 2 ^ 32 < 2 ^ 32
 mod_lt n = omega arith
@@ -62,6 +63,54 @@ pub named_reach : (reference : ℕ) (ranges : List Range) (n : ℕ) → referenc
 named_reach reference [] n small e = absurd (true≢false (sym e))
 named_reach reference (r ∷ ranges) n small e =
     more_reach (unwrapped_range reference r.lower r.upper) (named reference ranges) n (range_in reference r.lower r.upper small) (named_reach reference ranges n small) e
+
+-- ---- what the ranges name from a number on
+
+from_are_go : (low : ℕ) (run : ℕ × ℕ) (runs : List (ℕ × ℕ)) (b : Bool) → nat_le low run.1 ≡ b → run.0 ≤ run.1 → run.1 < 2 ^ 63 → AreRanges runs → AreRanges (if b then (max run.0 low, run.1) ∷ runs else runs)
+from_are_go low run runs true e in_order small a = (omega (arith, in_order, leb-true low run.1 e), small, a)
+from_are_go low run runs false e in_order small a = a
+
+pub from_are : (low : ℕ) (runs : List (ℕ × ℕ)) → AreRanges runs → AreRanges (from_on low runs)
+from_are low [] a = tt
+from_are low (run ∷ runs) a = from_are_go low run (from_on low runs) (nat_le low run.1) refl a.0 a.1 (from_are low runs a.2)
+
+-- the greater of two starts
+max_test : (low start n : ℕ) → low ≤ n → nat_le (max start low) n ≡ nat_le start n
+max_test low start n le = grind (arith, nat_tests, le)
+
+within_none : (run : ℕ × ℕ) (n : ℕ) → run.1 < n → within run n ≡ false
+within_none run n lt = elim (cases_Bool (within run n)) [
+  | inl t ↦ absurd (omega (arith, lt, upto run n t))
+  | inr f ↦ f
+]
+
+from_names_go : (low : ℕ) (run : ℕ × ℕ) (runs : List (ℕ × ℕ)) (n : ℕ) (b : Bool) → nat_le low run.1 ≡ b → low ≤ n → names (from_on low runs) n ≡ names runs n
+    → names (if b then (max run.0 low, run.1) ∷ from_on low runs else from_on low runs) n ≡ (within run n || names runs n)
+from_names_go low run runs n true e le ih = ap (λ t. (t && nat_le n run.1) || names (from_on low runs) n) (max_test low run.0 n le) ∙ ap (λ t. within run n || t) ih
+from_names_go low run runs n false e le ih = ih ∙ sym (ap (λ t. t || names runs n) (within_none run n (omega (arith, le, leb-false low run.1 e))))
+
+pub from_names : (low : ℕ) (runs : List (ℕ × ℕ)) (n : ℕ) → low ≤ n → names (from_on low runs) n ≡ names runs n
+from_names low [] n le = refl
+from_names low (run ∷ runs) n le = from_names_go low run runs n (nat_le low run.1) refl le (from_names low runs n le)
+
+below_none : (low start n : ℕ) → n < low → nat_le (max start low) n ≡ false
+below_none low start n lt = grind (arith, nat_tests, lt)
+
+from_none_go : (low : ℕ) (run : ℕ × ℕ) (runs : List (ℕ × ℕ)) (n : ℕ) (b : Bool) → n < low → names (from_on low runs) n ≡ false
+    → names (if b then (max run.0 low, run.1) ∷ from_on low runs else from_on low runs) n ≡ false
+from_none_go low run runs n true lt ih = ap (λ t. (t && nat_le n run.1) || names (from_on low runs) n) (below_none low run.0 n lt) ∙ ih
+from_none_go low run runs n false lt ih = ih
+
+pub from_none : (low : ℕ) (runs : List (ℕ × ℕ)) (n : ℕ) → n < low → names (from_on low runs) n ≡ false
+from_none low [] n lt = refl
+from_none low (run ∷ runs) n lt = from_none_go low run runs n (nat_le low run.1) lt (from_none low runs n lt)
+
+pub from_reach : (low : ℕ) (runs : List (ℕ × ℕ)) (n : ℕ) → names (from_on low runs) n ≡ true → names runs n ≡ true
+from_reach low runs n e =
+    elim (cases_lt n low) [
+      | inl lt ↦ absurd (true≢false (sym e ∙ from_none low runs n lt))
+      | inr ge ↦ sym (from_names low runs n ge) ∙ e
+    ]
 
 -- ---- the least number that is missing is within reach too
 

@@ -73,14 +73,14 @@ next_gap r h runs m s l = record {
   ];
 }
 
-pub gap_is : (a b : Received) (h : List Heard) (runs more : List (ℕ × ℕ)) → Receives a h → ((n : ℕ) → names more n ≡ (names runs n || names a.ahead n))
+pub gap_is : (a b : Received) (h : List Heard) (runs more : List (ℕ × ℕ)) → Receives a h → ((n : ℕ) → a.next ≤ n → names more n ≡ (names runs n || names a.ahead n))
     → IsLeastMissing more a.next b.next → IsLeft more b.next b.ahead → b.point ≡ a.point → Receives b (Gap runs ∷ h)
 gap_is a b h runs more s all l left p = record {
   point_is = p ∙ s.point_is;
   next_is = next_gap a h runs b.next s (record {
     from_there = l.from_there;
-    missing = sym (all b.next) ∙ l.missing;
-    before = λ k ge lt. sym (all k) ∙ l.before k ge lt;
+    missing = sym (all b.next l.from_there) ∙ l.missing;
+    before = λ k ge lt. sym (all k ge) ∙ l.before k ge lt;
   });
-  ahead_is = λ n le. left.from_next n le ∙ all n ∙ ap (λ t. names runs n || t) (s.ahead_is n (omega (arith, le, l.from_there)));
+  ahead_is = λ n le. left.from_next n le ∙ all n (omega (arith, le, l.from_there)) ∙ ap (λ t. names runs n || t) (s.ahead_is n (omega (arith, le, l.from_there)));
 }

@@ -1,5 +1,5 @@
 -- What a receiver keeps, and what it stands for.
-use Rattle.std.specs.Prelude.{◌≡◌, ℕ, ◌+◌, ◌^◌, ◌<◌, ◌≤◌, ◌==◌, nat_le, Bool, true, false, if◌then◌else◌, List, Option, None, Some}
+use Rattle.std.specs.Prelude.{◌≡◌, ℕ, ◌+◌, ◌^◌, ◌<◌, ◌≤◌, ◌==◌, nat_le, max, Bool, true, false, if◌then◌else◌, List, [], ◌∷◌, Option, None}
 use Rattle.serial_ranges.specs.Runs.{names}
 use Rattle.serial_ranges.specs.Serial.{unwrapped}
 use Rattle.history_model.specs.Life.{Heard, number, taken, IsNext}
@@ -26,10 +26,10 @@ pub record IsWithin (r : Received) : Type 0 where
 abbrev pub pointed : ℕ → ℕ → ℕ → Option ℕ
 pointed next serial offset = if offset == 0 then unwrapped next serial else None
 
--- a number that is there, and not above the limit
-abbrev pub is_within : Option ℕ → ℕ → Bool
-is_within None limit = false
-is_within (Some n) limit = nat_le n limit
+-- what runs name from a number on
+abbrev pub from_on : ℕ → List (ℕ × ℕ) → List (ℕ × ℕ)
+from_on low [] = []
+from_on low (run ∷ runs) = if nat_le low run.1 then (max run.0 low, run.1) ∷ from_on low runs else from_on low runs
 
 -- of a set, numbers below the next may be gone, and no other
 pub record IsLeft (old : List (ℕ × ℕ)) (next : ℕ) (new : List (ℕ × ℕ)) : Type 0 where

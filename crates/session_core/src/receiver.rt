@@ -2,7 +2,8 @@
 ghost use Rattle.std.specs.Prelude.{◌≡◌, ◌+◌, ◌^◌, ◌<◌, ◌≤◌, ◌||◌, ℕ, List, [], ◌∷◌, true, false, OnOk, OnErr, IfOk, IfErr, is_ok, Some};
 ghost use Rattle.serial_ranges.specs.Runs.{names, IsLeastMissing};
 ghost use Rattle.history_model.specs.Life.{Heard, Point, Does, Gap, named, number, is_new, next as next_of};
-ghost use Rattle.session_core.specs.Received.{Received, Receives, pointed, is_within, IsLeft, IsPast, IsUnnamed};
+ghost use Rattle.history_model.specs.State.{is_within};
+ghost use Rattle.session_core.specs.Received.{Received, Receives, pointed, from_on, IsLeft, IsPast, IsUnnamed};
 
 use crate::fault::UnknownIds;
 use amqp_values::{NoMemory, Range, Ranges};
@@ -147,10 +148,12 @@ impl Receiver {
         }
     }
 
-    /// Takes a gap: the commands of these ranges count as received, and act no more.
+    /// Takes a gap: the commands of these ranges count as received, and act no more. What they name before the next
+    /// number takes no room.
     pub fn gap(&mut self, ranges: &Ranges) -> Result<(), NoMemory>
         requires { self.old.next < 2 ^ 62 }
         ensures gap { OnOk result ((h : List Heard) → Receives self.old h → Receives self.new (Gap (named self.old.next ranges.now) ∷ h)) }
+        ensures kept { (n : ℕ) → names self.new.ahead n ≡ true → n < self.old.next → names self.old.ahead n ≡ true }
         ensures err { OnErr result (self.new ≡ self.old) }
     {
         let runs = runs_of(self.alloc, self.next, ranges.as_slice())?;
@@ -187,15 +190,17 @@ fn pass(ahead: &mut RangeSet, passed: &mut usize, from: u64) -> u64
     next
 }
 
-/// The runs that ranges of serials stand for.
+/// The runs that ranges of serials stand for, from the reference on.
 fn runs_of(alloc: Global, reference: u64, ranges: &[Range]) -> Result<Vec<(u64, u64)>, NoMemory>
     requires { reference < 2 ^ 63 }
-    ensures { IfOk result (λ runs. runs.items ≡ named reference ranges.now) }
+    ensures { IfOk result (λ runs. runs.items ≡ from_on reference (named reference ranges.now)) }
 {
     let mut runs = Vec::new(alloc);
     for range in ranges {
-        if let Some(run) = unwrap_range(reference, range.lower, range.upper) {
-            runs.push(run)?;
+        if let Some((lower, upper)) = unwrap_range(reference, range.lower, range.upper) {
+            if upper >= reference {
+                runs.push((lower.max(reference), upper))?;
+            }
         }
     }
     Ok(runs)

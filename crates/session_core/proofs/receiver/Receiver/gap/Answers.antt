@@ -1,10 +1,11 @@
--- Numbers stay within reach.
-use Rattle.std.proofs.Common.{◌≡◌, ◌+◌, ◌^◌, ◌<◌, ◌||◌, ◌∙◌, true, ℕ, List, inl, inr, sym, ap, subst, arith}
+-- Numbers stay within reach, and what is named before the next one isn't kept.
+use Rattle.std.proofs.Common.{◌≡◌, ◌+◌, ◌^◌, ◌<◌, ◌≤◌, ◌||◌, ◌∙◌, true, false, ℕ, List, inl, inr, sym, ap, subst, arith}
 use Rattle.std.proofs.lemmas.Bool.{cases_Bool}
 use Rattle.serial_ranges.specs.Runs.{AreRanges, names}
-use Rattle.history_model.specs.Life.{named}
-use Rattle.session_core.specs.Received.{Received}
-use Rattle.session_core.proofs.Reaching.{named_are, named_reach, missing_reach}
+use Rattle.history_model.specs.Life.{Heard, Gap, named}
+use Rattle.session_core.specs.Received.{Received, Receives, from_on}
+use Rattle.session_core.proofs.Reaching.{named_are, named_reach, missing_reach, from_are, from_names, from_none, from_reach}
+use Rattle.session_core.proofs.Receiving.{gap_is}
 use Rattle.session_core.proofs.receiver.Receiver.gap.Goals as goal
 
 either : (runs ahead more : List (ℕ × ℕ)) (limit : ℕ) → ((n : ℕ) → names runs n ≡ true → n < limit) → ((n : ℕ) → names ahead n ≡ true → n < limit)
@@ -19,18 +20,24 @@ pub add_ranges-requires : goal.add_ranges-requires
 add_ranges-requires c =
     let next = c.self.inside.next in
     let small = subst (λ (r : Received). r.next < 2 ^ 62) (sym c.self.view_is) c.requires in
-    let runs = c.as_slice-2.ensures.value ∙ c.in_ok-runs.ensures ∙ ap (named next) c.as_slice.ensures in
-    subst AreRanges (sym runs) (named_are next c.args.ranges.now small)
+    let runs = c.as_slice-2.ensures.value ∙ c.in_ok-runs.ensures ∙ ap (λ rs. from_on next (named next rs)) c.as_slice.ensures in
+    subst AreRanges (sym runs) (from_are next (named next c.args.ranges.now) (named_are next c.args.ranges.now small))
 
 pub invariant_of-self-2 : goal.invariant_of-self-2
 invariant_of-self-2 c =
     let next = c.self.inside.next in
     let small = subst (λ (r : Received). r.next < 2 ^ 62) (sym c.self.view_is) c.requires in
-    let runs = c.as_slice-2.ensures.value ∙ c.in_ok-runs.ensures ∙ ap (named next) c.as_slice.ensures in
+    let runs = c.as_slice-2.ensures.value ∙ c.in_ok-runs.ensures ∙ ap (λ rs. from_on next (named next rs)) c.as_slice.ensures in
     let all = either c.as_slice-2.result.now c.self.inside.ahead c.add_ranges.new.self (2 ^ 62 + 2 ^ 33)
-    (λ n e. named_reach next c.args.ranges.now n small (ap (λ rs. names rs n) (sym runs) ∙ e)) c.self.invariant.reach c.in_ok-add_ranges.ensures.adds in
+    (λ n e. named_reach next c.args.ranges.now n small (from_reach next (named next c.args.ranges.now) n (ap (λ rs. names rs n) (sym runs) ∙ e))) c.self.invariant.reach c.in_ok-add_ranges.ensures.adds in
     record {
       low = omega (arith, c.self.invariant.low, c.pass-self-inside.ensures.next.from_there);
       high = missing_reach c.add_ranges.new.self next c.pass-self-inside.result all c.self.invariant.high c.pass-self-inside.ensures.next;
       reach = λ n e. all n (c.pass-self-inside.ensures.left.none_new n e);
     }
+
+pub returns-clause-gap : goal.returns-clause-gap
+returns-clause-gap c = ?
+
+pub returns-clause-kept : goal.returns-clause-kept
+returns-clause-kept c = ?
