@@ -1,5 +1,5 @@
 -- What a receiver stands for after a command and after a gap.
-use Rattle.std.proofs.Common.{◌≡◌, ℕ, ◌+◌, ◌<◌, ◌==◌, ◌||◌, not, true, false, List, ◌∷◌, sym, ap, ◌∙◌, subst, arith, inl, inr}
+use Rattle.std.proofs.Common.{◌≡◌, ℕ, ◌+◌, ◌<◌, ◌≤◌, ◌==◌, ◌||◌, not, true, false, List, ◌∷◌, sym, ap, ◌∙◌, subst, arith, inl, inr}
 use Rattle.std.proofs.lemmas.Bool.{or_from, or_left, or_right, ne_eqb, eq-eqb, cases_lt}
 use Rattle.serial_ranges.specs.Runs.{names, IsLeastMissing}
 use Rattle.history_model.specs.Life.{Heard, Attach, Does, Gap, number, taken, is_new, next, IsNext}

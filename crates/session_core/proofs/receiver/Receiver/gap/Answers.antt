@@ -1,5 +1,5 @@
 -- Numbers stay within reach, and what is named before the next one isn't kept.
-use Rattle.std.proofs.Common.{◌≡◌, ◌+◌, ◌^◌, ◌<◌, ◌≤◌, ◌||◌, ◌∙◌, true, false, ℕ, List, inl, inr, sym, ap, subst, arith}
+use Rattle.std.proofs.Common.{◌≡◌, ◌+◌, ◌^◌, ◌<◌, ◌≤◌, ◌||◌, ◌∙◌, true, false, ℕ, List, ◌∷◌, refl, inl, inr, sym, ap, subst, arith}
 use Rattle.std.proofs.lemmas.Bool.{cases_Bool}
 use Rattle.serial_ranges.specs.Runs.{AreRanges, names}
 use Rattle.history_model.specs.Life.{Heard, Gap, named}
@@ -37,7 +37,19 @@ invariant_of-self-2 c =
     }
 
 pub returns-clause-gap : goal.returns-clause-gap
-returns-clause-gap c = ?
+returns-clause-gap c =
+    let next = c.self.inside.next in
+    let before : Received = record { next = next; point = c.self.inside.point; ahead = c.self.inside.ahead } in
+    let after : Received = record { next = c.pass-self-inside.result; point = c.self.inside.point; ahead = c.pass-self-inside.new.ahead } in
+    let runs = c.as_slice-2.ensures.value ∙ c.in_ok-runs.ensures ∙ ap (λ rs. from_on next (named next rs)) c.as_slice.ensures in
+    subst (λ (r : Received). (h : List Heard) → Receives r h → Receives after (Gap (named r.next c.args.ranges.now) ∷ h)) c.self.view_is
+    (λ h s. gap_is before after h (named next c.args.ranges.now) c.add_ranges.new.self s
+    (λ n le. c.in_ok-add_ranges.ensures.adds n ∙ ap (λ t. t || names c.self.inside.ahead n) (ap (λ rs. names rs n) runs ∙ from_names next (named next c.args.ranges.now) n le))
+    c.pass-self-inside.ensures.next c.pass-self-inside.ensures.left refl)
 
 pub returns-clause-kept : goal.returns-clause-kept
-returns-clause-kept c = ?
+returns-clause-kept c =
+    let next = c.self.inside.next in
+    let runs = c.as_slice-2.ensures.value ∙ c.in_ok-runs.ensures ∙ ap (λ rs. from_on next (named next rs)) c.as_slice.ensures in
+    subst (λ (r : Received). (n : ℕ) → names c.pass-self-inside.new.ahead n ≡ true → n < r.next → names r.ahead n ≡ true) c.self.view_is
+    (λ n t lt. sym (ap (λ b. b || names c.self.inside.ahead n) (ap (λ rs. names rs n) runs ∙ from_none next (named next c.args.ranges.now) n lt)) ∙ sym (c.in_ok-add_ranges.ensures.adds n) ∙ c.pass-self-inside.ensures.left.none_new n t)
