@@ -1,11 +1,13 @@
 //! `bench_parts WORD N`, for a benchmark to time: `arrivals`, N commands in order; `gaps`, N gaps that name every second
 //! number, then a command for each number between; `sends`, N commands given, of which the last 8,192 are kept;
-//! `turns`, N deliveries over four subscriptions. It prints how far it came.
+//! `turns`, N deliveries over four subscriptions; `numbers`, N numbers taken from the front, put back in another order,
+//! each time with the first one asked for, and taken again. It prints how far it came.
 #![tactic(auto)]
 
 use amqp_terms::{Control, Unit};
 use amqp_values::{NoMemory, Range, Ranges};
 use credit_core::{Offers, Sub, Subs};
+use number_tree::{Numbers, Slot};
 use octet_reading::Text;
 use serial_ranges::RangeSet;
 use session_core::{Receiver, Sender};
@@ -151,6 +153,52 @@ fn turns(alloc: Global, rounds: u32) -> Result<u64, NoMemory> {
     Ok(delivered)
 }
 
+/// Puts a number in that isn't there.
+fn put(numbers: &mut Numbers, number: u64, slot: Slot) {
+    if !numbers.has(number) {
+        numbers.put(number, slot);
+    }
+}
+
+/// The number that comes so many-th in another order.
+fn shuffled(round: u32, rounds: u32) -> u64 {
+    if rounds == 0 {
+        return 0;
+    }
+    (u64::from(round) * 7_919) % u64::from(rounds)
+}
+
+/// So many numbers taken from the front, put back in another order, and taken again; gives how many that were.
+fn numbers(alloc: Global, rounds: u32) -> Result<u64, NoMemory> {
+    let mut numbers = Numbers::new();
+    for round in 0..rounds {
+        let slot = Slot::new(alloc)?;
+        put(&mut numbers, u64::from(round) + 1, slot);
+    }
+    let mut slots = Vec::new(alloc);
+    for _ in 0..rounds {
+        let Some(first) = numbers.first_above(0) else {
+            break;
+        };
+        if let Some(slot) = numbers.take(first) {
+            slots.push(slot)?;
+        }
+    }
+    for round in 0..rounds {
+        if let Some(slot) = slots.pop() {
+            put(&mut numbers, shuffled(round, rounds) + 1, slot);
+            let _ = numbers.first_above(0);
+        }
+    }
+    let mut taken: u64 = 0;
+    for round in 0..rounds {
+        if numbers.take(shuffled(round, rounds) + 1).is_some() {
+            taken = taken.saturating_add(1);
+        }
+    }
+    Ok(taken)
+}
+
 /// Does what a word asks for; none where it asks for nothing, or memory is wanting.
 fn run(alloc: Global, word: &str, rounds: u32) -> Option<u64> {
     match word {
@@ -158,6 +206,7 @@ fn run(alloc: Global, word: &str, rounds: u32) -> Option<u64> {
         "gaps" => gaps(alloc, rounds).ok(),
         "sends" => sends(alloc, rounds).ok(),
         "turns" => turns(alloc, rounds).ok(),
+        "numbers" => numbers(alloc, rounds).ok(),
         _ => None,
     }
 }
