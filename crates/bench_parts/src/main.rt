@@ -160,12 +160,12 @@ fn put(numbers: &mut Numbers, number: u64, slot: Slot) {
     }
 }
 
-/// The number that comes so many-th in another order.
+/// The number that comes so many-th in another order, from 1 to that of the rounds.
 fn shuffled(round: u32, rounds: u32) -> u64 {
     if rounds == 0 {
-        return 0;
+        return 1;
     }
-    (u64::from(round) * 7_919) % u64::from(rounds)
+    (u64::from(round) * 7_919) % u64::from(rounds) + 1
 }
 
 /// So many numbers taken from the front, put back in another order, and taken again; gives how many that were.
@@ -186,13 +186,13 @@ fn numbers(alloc: Global, rounds: u32) -> Result<u64, NoMemory> {
     }
     for round in 0..rounds {
         if let Some(slot) = slots.pop() {
-            put(&mut numbers, shuffled(round, rounds) + 1, slot);
+            put(&mut numbers, shuffled(round, rounds), slot);
             let _ = numbers.first_above(0);
         }
     }
     let mut taken: u64 = 0;
     for round in 0..rounds {
-        if numbers.take(shuffled(round, rounds) + 1).is_some() {
+        if numbers.take(shuffled(round, rounds)).is_some() {
             taken = taken.saturating_add(1);
         }
     }
