@@ -65,6 +65,7 @@ impl<T> Lists<T> {
         ensures items { IfOk result (λ made. (key : ℕ) → item_at made key ≡ None) }
         ensures lists { IfOk result (λ made. made.lists ≡ replicate lists []) }
         ensures held { IfOk result (λ made. made.held ≡ replicate lists []) }
+        ensures spare { IfOk result (λ made. made.spare ≡ 0) }
     {
         let ends = empty_ends(alloc, lists)?;
         let held_ends = empty_ends(alloc, lists)?;
