@@ -3,7 +3,8 @@ use Rattle.std.proofs.Common.{◌≡◌, ◌≢◌, ℕ, ◌<◌, ◌≤◌, ◌
 use Rattle.std.specs.Prelude.{nat_lt}
 use Rattle.std.proofs.lemmas.Bool.{lt-ltb, ltb-true, ne_eqb, eq-eqb, true≢false, cases_lt}
 use Rattle.std.proofs.lemmas.List.{append-nil}
-use Rattle.number_tree.specs.Numbers.{Each, Rising, has, below, from, with_number, without, first_above}
+use Rattle.std.proofs.lemmas.Option.{none-some}
+use Rattle.number_tree.specs.Numbers.{Each, Rising, has, below, from, with_number, without, first_of, first_above}
 
 above : (a b : ℕ) → a ≤ b → b ≢ a → a < b
 above a b le d = elim (cases_lt a b) [
@@ -229,6 +230,16 @@ module _ (number : ℕ) (xs : List ℕ) (n : ℕ) (ys : List ℕ) (r : Rising (x
 
   pub above_left_none : number < n → first_above number xs ≡ None → Some n ≡ first_above number (xs ++ n ∷ ys)
   above_left_none lt e = sym (ap (λ o. or_else o (Some n)) e) ∙ above_left lt
+
+-- ---- the first one
+
+pub first_some : (xs : List ℕ) (n : ℕ) (ys : List ℕ) (m : ℕ) → first_of xs ≡ Some m → Some m ≡ first_of (xs ++ n ∷ ys)
+first_some [] n ys m e = absurd (none-some m e)
+first_some (x ∷ xs) n ys m e = sym e
+
+pub first_none : (xs : List ℕ) (n : ℕ) (ys : List ℕ) → first_of xs ≡ None → Some n ≡ first_of (xs ++ n ∷ ys)
+first_none [] n ys e = refl
+first_none (x ∷ xs) n ys e = absurd (none-some x (sym e))
 
 -- ---- what rises still does
 

@@ -1,8 +1,8 @@
 //! Sets of numbers.
 ghost use Rattle.std.specs.Prelude.{◌≡◌, [], false, is_some, IfOk};
-ghost use Rattle.number_tree.specs.Numbers.{has, with_number, without, first_above};
+ghost use Rattle.number_tree.specs.Numbers.{has, with_number, without, first_of, first_above};
 
-use crate::tree::{Node, Tree, is_there, least_above, put, take};
+use crate::tree::{Node, Tree, is_there, least, least_above, put, take};
 use octet_reading::NoMemory;
 use std::alloc::Global;
 use std::boxed::Box;
@@ -88,6 +88,13 @@ impl Numbers {
         ensures { result ≡ has number self.now }
     {
         is_there(&self.root, number)
+    }
+
+    /// The least number.
+    pub fn first(&self) -> Option<u64>
+        ensures { result ≡ first_of self.now }
+    {
+        least(&self.root)
     }
 
     /// The least number above this one.

@@ -25,6 +25,7 @@ fn shuffled(alloc: Global) -> Result<Numbers, NoMemory> {
 #[test]
 fn numbers_come_in_order(rt: HostRuntime) -> Result<(), Fail> {
     let numbers = shuffled(rt.alloc())?;
+    assert_eq!(rt; numbers.first(), Some(1));
     let mut last: u64 = 0;
     for expected in 1..1009 {
         assert_eq!(rt; numbers.first_above(last), Some(expected));
@@ -38,6 +39,9 @@ fn numbers_come_in_order(rt: HostRuntime) -> Result<(), Fail> {
 fn a_number_given_back_comes_first_again(rt: HostRuntime) -> Result<(), Fail> {
     let mut numbers = shuffled(rt.alloc())?;
     assert!(rt; numbers.take(0).is_none());
+    put(&mut numbers, rt.alloc(), 0)?;
+    assert_eq!(rt; numbers.first(), Some(0));
+    assert!(rt; numbers.take(0).is_some());
     assert!(rt; numbers.take(7).is_some());
     assert!(rt; numbers.take(7).is_none());
     assert_eq!(rt; numbers.first_above(6), Some(8));
@@ -47,5 +51,6 @@ fn a_number_given_back_comes_first_again(rt: HostRuntime) -> Result<(), Fail> {
         assert!(rt; numbers.take(number).is_some());
     }
     assert_eq!(rt; numbers.first_above(0), None);
+    assert_eq!(rt; numbers.first(), None);
     Ok(())
 }

@@ -1,7 +1,7 @@
 //! A tree of numbers: those to the left are below a node's number, those to the right above, and a node's rank is at
 //! least those of its children. Ranks are as good as random, so that a tree of n numbers is about as deep as the logarithm of n.
 ghost use Rattle.std.specs.Prelude.{◌≡◌, ◌++◌, ◌∷◌, is_some};
-ghost use Rattle.number_tree.specs.Numbers.{Rising, has, below, from, with_number, without, first_above};
+ghost use Rattle.number_tree.specs.Numbers.{Rising, has, below, from, with_number, without, first_of, first_above};
 ghost use Rattle.number_tree.specs.Trees.{numbers};
 
 use std::boxed::Box;
@@ -178,6 +178,19 @@ fn right_of(node: &Node) -> &Tree
     ensures { result.now ≡ node.now.right }
 {
     &node.right
+}
+
+/// The least number.
+pub(crate) fn least(tree: &Tree) -> Option<u64>
+    ensures { result ≡ first_of (numbers tree.now) }
+{
+    match tree {
+        Tree::Empty => None,
+        Tree::Fork(root) => match least(left_of(root)) {
+            Some(number) => Some(number),
+            None => Some(root.number),
+        },
+    }
 }
 
 /// The least number above this one.

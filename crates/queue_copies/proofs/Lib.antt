@@ -1,0 +1,11 @@
+pub mod Numbers
+pub mod Parted
+pub mod Gathering
+pub mod Sounding
+pub mod Views
+pub mod Standing
+pub mod Changing
+pub mod Adding
+pub mod Finding
+pub mod Widening
+pub mod Purging
