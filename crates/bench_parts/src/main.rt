@@ -1,8 +1,12 @@
 //! `bench_parts WORD N`, for a benchmark to time: `arrivals`, N commands in order; `gaps`, N gaps that name every second
 //! number, then a command for each number between; `sends`, N commands given, of which the last 8,192 are kept;
 //! `turns`, N deliveries over four subscriptions; `numbers`, N numbers taken from the front, put back in another order,
-//! each time with the first one asked for, and taken again. It prints how far it came.
+//! each time with the first one asked for, and taken again; `copies`, N copies of a queue added, acquired, released in
+//! another order, each time with the first available one asked for, and accepted; `leaves`, N copies that a session holds
+//! at its end, added and acquired before. It prints how far it came.
 #![tactic(auto)]
+
+mod copies;
 
 use amqp_terms::{Control, Unit};
 use amqp_values::{NoMemory, Range, Ranges};
@@ -207,6 +211,8 @@ fn run(alloc: Global, word: &str, rounds: u32) -> Option<u64> {
         "sends" => sends(alloc, rounds).ok(),
         "turns" => turns(alloc, rounds).ok(),
         "numbers" => numbers(alloc, rounds).ok(),
+        "copies" => copies::circle(alloc, rounds).ok(),
+        "leaves" => copies::leaves(alloc, rounds).ok(),
         _ => None,
     }
 }
