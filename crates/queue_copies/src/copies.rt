@@ -251,6 +251,7 @@ impl Copies {
     pub fn first<L: Ledger>(&self, list: usize, steps: &mut Steps<L>) -> Option<u64>
         requires { list < length self.now.lists }
         ensures first { result ≡ first_of (numbers (copies_at self.now.lists list)) }
+        ensures ordered { Ordered self.now.lists }
         ensures steps { steps.new ≤ steps.old + 1 }
     {
         match self.nodes.first(list) {
@@ -295,6 +296,7 @@ impl Copies {
         ensures lists { self.new.lists ≡ slice_set self.old.lists list (held_only (copies_at self.old.lists list)) }
         ensures count { result ≡ length (available (copies_at self.old.lists list)) }
         ensures spare { self.new.spare ≡ self.old.spare }
+        ensures ordered { Ordered self.old.lists }
     {
         let (count, _) = self.counts(list);
         while let Some(number) = self.first_free(list) {
@@ -308,6 +310,7 @@ impl Copies {
         requires { list < length self.now.lists }
         ensures available { result.0 ≡ length (available (copies_at self.now.lists list)) }
         ensures held { result.1 ≡ length (held_only (copies_at self.now.lists list)) }
+        ensures ordered { Ordered self.now.lists }
     {
         self.shelves[list].counts()
     }

@@ -1,0 +1,3 @@
+pub mod Laning
+pub mod Tying
+pub mod Filling
