@@ -2,6 +2,7 @@
 ghost use Rattle.std.specs.Prelude.{◌≡◌, ◌+◌, ◌<◌, ◌≤◌, ◌++◌, ◌∷◌, ℕ, [], map, length, replicate, is_some, None, Some, OnOk, OnErr, IfOk, IfSome, IfNone, slice_set};
 ghost use Rattle.std.specs.Option.{option_copied};
 ghost use Rattle.number_tree.specs.Numbers.{first_of, first_above};
+ghost use Rattle.queue_copies.specs.Iter.{pair};
 ghost use Rattle.queue_copies.specs.Copied.{Ordered, copies_at, numbers, find_in, IsThere, IsGreatest, copy_of, hold_of, changed, removed, held_by, released, available, held_only};
 ghost use Rattle.held_copies.specs.Lanes.{session_in};
 ghost use Rattle.held_copies.specs.Holding.{session_of, Fits};
@@ -9,7 +10,7 @@ ghost use Rattle.held_copies.specs.Holding.{session_of, Fits};
 use crate::lanes::Lanes;
 use node_list::Steps;
 use octet_reading::NoMemory;
-use queue_copies::{Copies, Holder, QueueCopy};
+use queue_copies::{Copies, CopiesIter, Holder, QueueCopy};
 use std::alloc::Global;
 use std::marker::Model;
 use std::sync::ledger::Ledger;
@@ -213,6 +214,14 @@ impl HeldCopies {
         ensures { result ≡ first_above above (available (copies_at self.now.lists list)) }
     {
         self.copies.first_available(list, above)
+    }
+
+    /// The copies of a list by rising number, each with its holder. Takes no memory.
+    pub fn iter(&self, list: usize) -> CopiesIter<'_>
+        requires { list < length self.now.lists }
+        ensures { result ≡ map pair (copies_at self.now.lists list) }
+    {
+        self.copies.iter(list)
     }
 
     /// How many copies of a list are available, and how many are held. Takes no memory.

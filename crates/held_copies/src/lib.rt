@@ -7,4 +7,4 @@ mod lanes;
 mod tests;
 
 pub use copies::HeldCopies;
-pub use queue_copies::{Holder, QueueCopy};
+pub use queue_copies::{CopiesIter, Holder, QueueCopy};

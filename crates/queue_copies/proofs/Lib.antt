@@ -9,3 +9,4 @@ pub mod Adding
 pub mod Finding
 pub mod Widening
 pub mod Purging
+pub mod Iterating

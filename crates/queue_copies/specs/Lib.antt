@@ -1,3 +1,4 @@
 pub mod Shelves
 pub mod Copied
 pub mod Sound
+pub mod Iter

@@ -2,9 +2,11 @@
 ghost use Rattle.std.specs.Prelude.{◌≡◌, ◌+◌, ◌<◌, ◌≤◌, ◌++◌, ◌∷◌, ℕ, [], map, length, replicate, None, Some, is_some, IfSome, IfNone, OnOk, OnErr, IfOk, slice_set};
 ghost use Rattle.std.specs.Option.{option_copied};
 ghost use Rattle.number_tree.specs.Numbers.{first_of, first_above};
+ghost use Rattle.queue_copies.specs.Iter.{pair};
 ghost use Rattle.queue_copies.specs.Copied.{Copied, Ordered, copies_at, numbers, find_in, IsThere, IsGreatest, copy_of, hold_of, holder_of, lane_of, changed, removed, held_by, released, available, held_only};
 
 use crate::entry::{Entry, Held, Holder, QueueCopy};
+use crate::iter::CopiesIter;
 use crate::shelf::{Shelf, drop_from, free_at, hold_at, push_empty};
 use indexmap::IndexMap;
 use node_list::{Lists, Steps};
@@ -303,6 +305,14 @@ impl Copies {
             drop(self.remove(number, steps));
         }
         count
+    }
+
+    /// The copies of a list by rising number, each with its holder. Takes no memory.
+    pub fn iter(&self, list: usize) -> CopiesIter<'_>
+        requires { list < length self.now.lists }
+        ensures { result ≡ map pair (copies_at self.now.lists list) }
+    {
+        CopiesIter::new(&self.nodes, list, self.nodes.first(list))
     }
 
     /// How many copies of a list are available, and how many are held. Takes no memory.

@@ -3,9 +3,11 @@
 
 mod copies;
 mod entry;
+mod iter;
 mod shelf;
 #[cfg(test)]
 mod tests;
 
 pub use copies::Copies;
 pub use entry::{Holder, QueueCopy};
+pub use iter::CopiesIter;

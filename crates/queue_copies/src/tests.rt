@@ -159,3 +159,44 @@ fn a_purge_leaves_held_copies(rt: HostRuntime) -> Result<(), Fail> {
     );
     Ok(())
 }
+
+/// Numbers of a list, ten times each, and one more where the copy is held.
+fn numbers(copies: &Copies, list: usize, alloc: Global) -> Result<Vec<u64>, NoMemory> {
+    let mut numbers = Vec::new(alloc);
+    if list >= copies.lists() {
+        return Ok(numbers);
+    }
+    for (copy, holder) in copies.iter(list) {
+        let held = u64::from(holder.is_some());
+        numbers.push(copy.number.saturating_mul(10).saturating_add(held))?;
+    }
+    Ok(numbers)
+}
+
+/// The numbers of a list of which the second copy is held, the first was released, and the third was accepted.
+fn listed<L: Ledger>(alloc: Global, blank: Blank) -> Result<Vec<u64>, NoMemory>
+    requires name { blank.name ≡ L.name }
+    requires parts { blank.parts ≡ L.parts }
+    requires some { 0 < L.parts }
+{
+    let mut steps = Steps::<L>::open(blank);
+    let mut copies = Copies::new(alloc, 2)?;
+    for number in 1..5 {
+        add(&mut copies, 1, number, alloc, &mut steps)?;
+    }
+    add(&mut copies, 0, 5, alloc, &mut steps)?;
+    hold(&mut copies, 1, 7, 0, &mut steps);
+    hold(&mut copies, 2, 7, 0, &mut steps);
+    let_go(&mut copies, 1, true, &mut steps);
+    remove(&mut copies, 3, &mut steps);
+    numbers(&copies, 1, alloc)
+}
+
+#[test]
+fn copies_come_by_rising_number(rt: HostRuntime) -> Result<(), Fail> {
+    assert_eq!(rt;
+        listed::<Brand>(rt.alloc(), Blank::new(1))?.as_slice(),
+        &[10, 21, 40][..]
+    );
+    Ok(())
+}
