@@ -1,5 +1,5 @@
 //! The map.
-ghost use Rattle.std.specs.Prelude.{◌≡◌, ◌+◌, ◌<◌, ◌≤◌, ℕ, [], None, Some, OnOk, IfOk, IfErr, IfSome, IfNone};
+ghost use Rattle.std.specs.Prelude.{◌≡◌, ◌+◌, ◌<◌, ◌≤◌, ℕ, [], None, Some, OnOk, OnSome, IfOk, IfErr, IfSome, IfNone};
 ghost use Rattle.std.specs.Ordering.{nat_cmp};
 ghost use Rattle.std.specs.Option.{option_copied};
 ghost use Rattle.std.specs.Cmp.Lexicographic.{slice_cmp};
@@ -102,7 +102,8 @@ impl<T> NameMap<T> {
         ensures entries { self.new.entries ≡ out name.now self.old.entries }
         ensures some { IfSome result (λ entry. (entry.0 ≡ name.now) × (find name.now self.old.entries ≡ Some entry.1)) }
         ensures none { IfNone result (find name.now self.old.entries ≡ None) }
-        ensures room { self.old.room ≤ self.new.room }
+        ensures room { OnSome result (self.new.room ≡ self.old.room + 1) }
+        ensures kept { IfNone result (self.new.room ≡ self.old.room) }
     {
         match self.search(name) {
             Ok(place) => Some(self.entries.remove(place)),
