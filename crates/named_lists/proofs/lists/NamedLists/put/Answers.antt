@@ -1,7 +1,6 @@
 -- The list is the name's.
-use Rattle.std.proofs.Common.{◌≡◌, ◌∙◌, ◌++◌, ◌∷◌, [], ℕ, List, length, sym, ap, subst, arith}
+use Rattle.std.proofs.Common.{◌∷◌, [], ℕ, List, length, sym, ap, subst, arith}
 use Rattle.std.proofs.lemmas.List.{length-append}
-use Rattle.name_map.specs.Named.{put}
 use Rattle.named_lists.specs.Lists.{Parted, lists_of}
 use Rattle.named_lists.proofs.Parting.{put_parted, length_put}
 use Rattle.named_lists.proofs.lists.NamedLists.put.Goals as goal

@@ -1,5 +1,5 @@
 -- The name's list is free, and without the name nothing changed.
-use Rattle.std.proofs.Common.{◌≡◌, ◌∙◌, ◌++◌, ◌∷◌, [], ℕ, List, length, sym, ap, subst, arith}
+use Rattle.std.proofs.Common.{◌∙◌, ◌∷◌, [], ℕ, List, length, sym, ap, subst, arith}
 use Rattle.std.proofs.lemmas.List.{length-append}
 use Rattle.name_map.specs.Named.{out}
 use Rattle.name_map.proofs.Placing.{out_none}

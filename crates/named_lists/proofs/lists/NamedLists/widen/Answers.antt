@@ -1,5 +1,5 @@
 -- Each turn takes the next list in.
-use Rattle.std.proofs.Common.{◌≡◌, ◌∙◌, ◌+◌, ◌++◌, ◌∷◌, [], ℕ, List, length, sym, ap, subst, arith}
+use Rattle.std.proofs.Common.{◌+◌, ◌∷◌, [], ℕ, List, length, sym, ap, subst, arith}
 use Rattle.std.proofs.lemmas.List.{length-append}
 use Rattle.named_lists.specs.Lists.{Parted, lists_of}
 use Rattle.named_lists.proofs.Parting.{widen_parted}
