@@ -1,5 +1,5 @@
 -- Where a name stands among sorted ones, and what a change there makes of them.
-use Rattle.std.proofs.Common.{◌≡◌, ℕ, zero, suc, ◌<◌, ◌≤◌, Bool, true, false, if◌then◌else◌, List, [], ◌∷◌, ◌⊎◌, length, Result, Ok, Err, IfOk, IfErr, Option, None, Some, refl, sym, ap, inl, inr, ◌∙◌, arith, slice_index_or, bytes_eq, nat_cmp}
+use Rattle.std.proofs.Common.{◌≡◌, ℕ, zero, suc, ◌<◌, ◌≤◌, Bool, true, false, if◌then◌else◌, List, [], ◌∷◌, ◌⊎◌, length, Result, Ok, Err, IfOk, IfErr, Option, None, Some, refl, sym, ap, subst, inl, inr, ◌∙◌, arith, slice_index_or, bytes_eq, nat_cmp}
 use Rattle.std.proofs.lemmas.Bool.{true≢false, cases_lt}
 use Rattle.std.proofs.lemmas.Map.Text.{is_eq-slice_cmp}
 use Rattle.std.proofs.lemmas.Slice.Eq.{bytes_eq-Decides}
@@ -185,3 +185,16 @@ module _ {T : Type 0} where
   pub place_some : (name : List ℕ) (es : List (List ℕ × T)) → Sorted es → (i : ℕ) → IsPlace name es i → find name es ≡ None → ⊥
   place_some name [] s i p q = omega (arith, p.0)
   place_some name (e ∷ es) s i p q = true≢false (ap (λ (o : Option T). elim o [ None ↦ false | Some x ↦ true ]) (sym (place_find name (e ∷ es) s i e p.0 (p.1 e)) ∙ q))
+
+  -- ---- a name that is taken out is gone
+
+  before_none : (a : List ℕ) (es : List (List ℕ × T)) → EachName (Before a) es → find a es ≡ None
+  before_none a [] p = refl
+  before_none a (e ∷ es) p = ap (λ (b : Bool). if b then Some e.1 else find a es) (equal_is e.0 a Greater (turned a e.0 Less p.0)) ∙ before_none a es p.1
+
+  pub out_gone : (name : List ℕ) (es : List (List ℕ × T)) → Sorted es → find name (out name es) ≡ None
+  out_gone name [] s = refl
+  out_gone name (e ∷ es) s = go (bytes_eq e.0 name) refl (out_gone name es s.1) where
+    go : (b : Bool) → bytes_eq e.0 name ≡ b → find name (out name es) ≡ None → find name (if b then es else e ∷ out name es) ≡ None
+    go true q ih = before_none name es (subst (λ (a : List ℕ). EachName (Before a) es) ((bytes_eq-Decides e.0 name).0 q) s.0)
+    go false q ih = ap (λ (b : Bool). if b then Some e.1 else find name (out name es)) q ∙ ih

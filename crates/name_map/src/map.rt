@@ -102,6 +102,7 @@ impl<T> NameMap<T> {
         ensures entries { self.new.entries ≡ out name.now self.old.entries }
         ensures some { IfSome result (λ entry. (entry.0 ≡ name.now) × (find name.now self.old.entries ≡ Some entry.1)) }
         ensures none { IfNone result (find name.now self.old.entries ≡ None) }
+        ensures gone { find name.now self.new.entries ≡ None }
         ensures room { OnSome result (self.new.room ≡ self.old.room + 1) }
         ensures kept { IfNone result (self.new.room ≡ self.old.room) }
     {

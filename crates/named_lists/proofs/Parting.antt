@@ -8,10 +8,10 @@ use Rattle.std.proofs.lemmas.Bool.Decides.{nat_tests}
 use Rattle.name_map.specs.Named.{find, put, out}
 use Rattle.named_lists.specs.Lists.{lists_of, times, Parted}
 
-abbrev one_if : Bool → ℕ
+abbrev pub one_if : Bool → ℕ
 one_if b = if b then 1 else 0
 
-times_last : (l m : ℕ) (xs : List ℕ) → times l (xs ++ m ∷ []) ≡ times l xs + one_if (m == l)
+pub times_last : (l m : ℕ) (xs : List ℕ) → times l (xs ++ m ∷ []) ≡ times l xs + one_if (m == l)
 times_last l m [] = omega arith
 times_last l m (x ∷ xs) = omega (arith, times_last l m xs)
 
@@ -19,7 +19,7 @@ below_more : (l count : ℕ) → one_if (nat_lt l (count + 1)) ≡ one_if (nat_l
 below_more l count = grind (arith, nat_tests)
 
 module _ {M : Type 0} where
-  times_put : (l : ℕ) (name : List ℕ) (v : M × ℕ) (es : List (List ℕ × (M × ℕ))) → times l (lists_of (put name v es)) ≡ one_if (v.1 == l) + times l (lists_of es)
+  pub times_put : (l : ℕ) (name : List ℕ) (v : M × ℕ) (es : List (List ℕ × (M × ℕ))) → times l (lists_of (put name v es)) ≡ one_if (v.1 == l) + times l (lists_of es)
   times_put l name v [] = refl
   times_put l name v (e ∷ es) = go (is_lt (slice_cmp nat_cmp name e.0)) (times_put l name v es) where
     go : (b : Bool) → times l (lists_of (put name v es)) ≡ one_if (v.1 == l) + times l (lists_of es) → times l (lists_of (if b then (name, v) ∷ e ∷ es else e ∷ put name v es)) ≡ one_if (v.1 == l) + times l (lists_of (e ∷ es))
@@ -32,7 +32,7 @@ module _ {M : Type 0} where
   none_some : (x : M × ℕ) → ◌≡◌ {A = Option (M × ℕ)} None (Some x) → ⊥
   none_some x e = true≢false (ap (λ (o : Option (M × ℕ)). elim o [ None ↦ true | Some z ↦ false ]) e)
 
-  times_out : (l : ℕ) (name : List ℕ) (es : List (List ℕ × (M × ℕ))) (x : M × ℕ) → find name es ≡ Some x → one_if (x.1 == l) + times l (lists_of (out name es)) ≡ times l (lists_of es)
+  pub times_out : (l : ℕ) (name : List ℕ) (es : List (List ℕ × (M × ℕ))) (x : M × ℕ) → find name es ≡ Some x → one_if (x.1 == l) + times l (lists_of (out name es)) ≡ times l (lists_of es)
   times_out l name [] x q = absurd (none_some x q)
   times_out l name (e ∷ es) x q = go (bytes_eq e.0 name) q (times_out l name es x) where
     go : (b : Bool) → (if b then Some e.1 else find name es) ≡ Some x → (find name es ≡ Some x → one_if (x.1 == l) + times l (lists_of (out name es)) ≡ times l (lists_of es))

@@ -68,6 +68,7 @@ impl<M> NamedLists<M> {
         ensures entries { self.new.entries ≡ self.old.entries }
         ensures count { self.new.count ≡ lists }
         ensures free { length self.new.free + self.old.count ≡ length self.old.free + lists }
+        ensures parted { Parted (lists_of self.new.entries) self.new.free self.new.count }
     {
         for list in self.count..lists {
             self.free.push_reserved(list);
@@ -126,6 +127,7 @@ impl<M> NamedLists<M> {
     pub fn take(&mut self, name: &Text) -> Option<(Text, (M, usize))>
         ensures entries { self.new.entries ≡ out name.now self.old.entries }
         ensures some { IfSome result (λ entry. (entry.0 ≡ name.now) × (find name.now self.old.entries ≡ Some entry.1) × (self.new.free ≡ self.old.free ++ entry.1.1 ∷ [])) }
+        ensures gone { find name.now self.new.entries ≡ None }
         ensures none { IfNone result ((find name.now self.old.entries ≡ None) × (self.new.free ≡ self.old.free)) }
         ensures count { self.new.count ≡ self.old.count }
     {

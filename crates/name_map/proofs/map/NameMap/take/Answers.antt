@@ -1,7 +1,7 @@
 -- The name's entry is taken out at its place.
 use Rattle.std.proofs.Common.{◌∙◌, sym, ap, subst}
 use Rattle.name_map.specs.Named.{Named, Sorted, find, out, IsPlace}
-use Rattle.name_map.proofs.Placing.{place_at, place_named, place_removed, sorted_out, gap_none, out_none}
+use Rattle.name_map.proofs.Placing.{place_at, place_named, place_removed, sorted_out, gap_none, out_none, out_gone}
 use Rattle.name_map.proofs.map.NameMap.take.Goals as goal
 
 pub invariant_of-self : goal.invariant_of-self
@@ -28,3 +28,11 @@ returns-in-Err-clause-entries g c = sym (out_none c.args.name.now c.args.self.no
 
 pub returns-in-Err-clause-none : goal.returns-in-Err-clause-none
 returns-in-Err-clause-none g c = gap_none c.args.name.now c.args.self.now.entries c.in-Err.field-0 c.in-Err.ensures.gap
+
+pub returns-in-Ok-clause-gone : goal.returns-in-Ok-clause-gone
+returns-in-Ok-clause-gone g c =
+    ap (find c.args.name.now) (c.remove.ensures.items ∙ place_removed c.args.name.now c.self.inside.entries.items c.self.invariant c.in-Ok.place c.remove.result (subst (λ (v : Named g.row.T.Denot). IsPlace c.args.name.now v.entries c.in-Ok.place) (sym c.self.view_is) c.in-Ok.ensures.found))
+    ∙ out_gone c.args.name.now c.self.inside.entries.items c.self.invariant
+
+pub returns-in-Err-clause-gone : goal.returns-in-Err-clause-gone
+returns-in-Err-clause-gone g c = gap_none c.args.name.now c.args.self.now.entries c.in-Err.field-0 c.in-Err.ensures.gap

@@ -1,0 +1,8 @@
+-- A queue's list is one of the lists.
+use Rattle.std.proofs.Common.{◌∙◌, sym, ap}
+use Rattle.std.specs.Option.{option_copied}
+use Rattle.queue_core.proofs.Standing.{found_within}
+use Rattle.queue_core.proofs.queues.Queues.counts.Goals as goal
+
+pub counts-requires : goal.counts-requires
+counts-requires c = found_within c.self.inside.names.entries c.self.inside.names.free c.self.inside.names.count c.self.inside.copies.lists c.self.invariant c.args.name.now c.in-Some.queue.now (sym c.get.ensures ∙ ap option_copied c.in-Some.is)

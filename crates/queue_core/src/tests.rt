@@ -1,0 +1,173 @@
+//! Queues as a broker has them: declared, filled, emptied by sessions and deleted.
+ghost use Rattle.std.specs.Prelude.{◌≡◌, ◌<◌};
+
+use crate::{Holder, QueueCopy, QueueMarks, Queues};
+use node_list::Steps;
+use octet_reading::{NoMemory, Text};
+use std::alloc::Global;
+use std::marker::Brand;
+use std::sync::ledger::{Blank, Ledger};
+use std::test::Fail;
+
+fn marks(alloc: Global, alternate: &str) -> Result<QueueMarks, NoMemory> {
+    Ok(QueueMarks {
+        durable: true,
+        exclusive: Some(7),
+        auto_delete: true,
+        alternate: Text::from_text(alloc, alternate)?,
+        arguments: None,
+    })
+}
+
+/// Declares a queue that isn't there.
+fn declare(queues: &mut Queues, alloc: Global, name: &str) -> Result<(), NoMemory> {
+    let name = Text::from_text(alloc, name)?;
+    if queues.marks(&name).is_none() {
+        queues.declare(&name, marks(alloc, name.as_text())?)?;
+    }
+    Ok(())
+}
+
+/// Adds a copy with the next number to a queue that is there.
+fn add(queues: &mut Queues, alloc: Global, name: &str) -> Result<(), NoMemory> {
+    queues.reserve(1)?;
+    let name = Text::from_text(alloc, name)?;
+    let last = queues.greatest();
+    let copy = QueueCopy {
+        number: last.saturating_add(1),
+        redelivered: false,
+        exchange: Text::from_text(alloc, "x")?,
+        header: None,
+        body: None,
+    };
+    if last < copy.number && queues.marks(&name).is_some() {
+        queues.add(&name, copy);
+    }
+    Ok(())
+}
+
+/// Gives the first available copy of a queue to a session.
+fn acquire<L: Ledger>(
+    queues: &mut Queues,
+    alloc: Global,
+    name: &str,
+    session: u64,
+    steps: &mut Steps<L>,
+) -> Result<(), NoMemory> {
+    queues.room(0, 1)?;
+    let name = Text::from_text(alloc, name)?;
+    if let Some(number) = queues.first_available(&name, 0) {
+        if queues.contains(number) {
+            let holder = Holder::Session {
+                session,
+                transfer: 0,
+            };
+            queues.acquire(number, holder, steps);
+        }
+    }
+    Ok(())
+}
+
+/// Releases all that a session holds, as its end does; gives how many copies that were.
+fn leave<L: Ledger>(queues: &mut Queues, session: u64, steps: &mut Steps<L>) -> u64 {
+    let mut released: u64 = 0;
+    for _ in 0..100u8 {
+        let Some(number) = queues.first_held(session) else {
+            break;
+        };
+        if queues.contains(number) {
+            queues.release(number, true, steps);
+        }
+        released = released.saturating_add(1);
+    }
+    released
+}
+
+fn counts(queues: &Queues, alloc: Global, name: &str) -> Result<Option<(u64, u64)>, NoMemory> {
+    let name = Text::from_text(alloc, name)?;
+    Ok(queues.counts(&name))
+}
+
+/// What a queue and its neighbour count after each of: five copies are added to both in turn, a session gets two of the
+/// one and one of the other, the one is purged, the session ends, the one is deleted.
+fn live<L: Ledger>(alloc: Global, blank: Blank) -> Result<Vec<Option<(u64, u64)>>, NoMemory>
+    requires name { blank.name ≡ L.name }
+    requires parts { blank.parts ≡ L.parts }
+    requires some { 0 < L.parts }
+{
+    let mut steps = Steps::<L>::open(blank);
+    let mut queues = Queues::new(alloc)?;
+    let mut seen = Vec::new(alloc);
+    declare(&mut queues, alloc, "one")?;
+    declare(&mut queues, alloc, "other")?;
+    for _ in 0..5u8 {
+        add(&mut queues, alloc, "one")?;
+        add(&mut queues, alloc, "other")?;
+    }
+    acquire(&mut queues, alloc, "one", 7, &mut steps)?;
+    acquire(&mut queues, alloc, "one", 7, &mut steps)?;
+    acquire(&mut queues, alloc, "other", 7, &mut steps)?;
+    seen.push(counts(&queues, alloc, "one")?)?;
+    let one = Text::from_text(alloc, "one")?;
+    seen.push(Some((queues.purge(&one), 0)))?;
+    seen.push(counts(&queues, alloc, "one")?)?;
+    seen.push(Some((leave(&mut queues, 7, &mut steps), 0)))?;
+    seen.push(counts(&queues, alloc, "one")?)?;
+    queues.delete(&one);
+    seen.push(counts(&queues, alloc, "one")?)?;
+    seen.push(counts(&queues, alloc, "other")?)?;
+    Ok(seen)
+}
+
+#[test]
+fn a_queue_has_its_copies_and_no_others(rt: HostRuntime) -> Result<(), Fail> {
+    let wanted = [
+        Some((3, 2)),
+        Some((3, 0)),
+        Some((0, 2)),
+        Some((3, 0)),
+        Some((2, 0)),
+        None,
+        Some((5, 0)),
+    ];
+    assert_eq!(rt;
+        live::<Brand>(rt.alloc(), Blank::new(1))?.as_slice(),
+        wanted.as_slice()
+    );
+    Ok(())
+}
+
+/// How many octets the names of the queues have, as digits of a number.
+fn names(queues: &Queues) -> u64 {
+    let mut digits: u64 = 0;
+    for name in queues.names() {
+        let len = name.as_slice().len() as u64;
+        digits = digits.saturating_mul(10).saturating_add(len);
+    }
+    digits
+}
+
+#[test]
+fn queues_come_by_name_and_keep_their_marks(rt: HostRuntime) -> Result<(), Fail> {
+    let alloc = rt.alloc();
+    let mut queues = Queues::new(alloc)?;
+    for name in ["bb", "aaa", "c"] {
+        declare(&mut queues, alloc, name)?;
+    }
+    assert_eq!(rt; names(&queues), 321);
+    let name = Text::from_text(alloc, "aaa")?;
+    assert!(rt; queues.is_alternate(&name));
+    queues.plain(&name);
+    match queues.marks(&name) {
+        Some(marks) => {
+            assert!(rt; !marks.durable && marks.exclusive.is_none() && !marks.auto_delete);
+            assert!(rt; marks.alternate == name);
+        }
+        None => assert!(rt; false),
+    }
+    assert_eq!(rt; names(&queues), 321);
+    queues.delete(&name);
+    assert!(rt; !queues.is_alternate(&name));
+    assert_eq!(rt; names(&queues), 21);
+    Ok(())
+}
