@@ -88,51 +88,70 @@ fn counts(queues: &Queues, alloc: Global, name: &str) -> Result<Option<(u64, u64
     Ok(queues.counts(&name))
 }
 
-/// What a queue and its neighbour count after each of: five copies are added to both in turn, a session gets two of the
-/// one and one of the other, the one is purged, the session ends, the one is deleted.
-fn live<L: Ledger>(alloc: Global, blank: Blank) -> Result<Vec<Option<(u64, u64)>>, NoMemory>
+/// Two queues of five copies each, added to both in turn.
+fn fill(queues: &mut Queues, alloc: Global) -> Result<(), NoMemory> {
+    declare(queues, alloc, "one")?;
+    declare(queues, alloc, "other")?;
+    for _ in 0..5u8 {
+        add(queues, alloc, "one")?;
+        add(queues, alloc, "other")?;
+    }
+    Ok(())
+}
+
+/// What the queues count after each of: a session gets two copies of the one and one of the other, the one is purged, the
+/// session ends, the one is deleted.
+fn live<L: Ledger>(
+    queues: &mut Queues,
+    alloc: Global,
+    steps: &mut Steps<L>,
+) -> Result<[Option<(u64, u64)>; 5], NoMemory> {
+    acquire(queues, alloc, "one", 7, steps)?;
+    acquire(queues, alloc, "one", 7, steps)?;
+    acquire(queues, alloc, "other", 7, steps)?;
+    let held = counts(queues, alloc, "one")?;
+    purge(queues, alloc, "one")?;
+    let purged = counts(queues, alloc, "one")?;
+    let released = leave(queues, 7, steps);
+    let left = counts(queues, alloc, "one")?;
+    delete(queues, alloc, "one")?;
+    Ok([
+        held,
+        purged,
+        Some((released, 0)),
+        left,
+        counts(queues, alloc, "one")?,
+    ])
+}
+
+fn purge(queues: &mut Queues, alloc: Global, name: &str) -> Result<(), NoMemory> {
+    let name = Text::from_text(alloc, name)?;
+    let _ = queues.purge(&name);
+    Ok(())
+}
+
+fn delete(queues: &mut Queues, alloc: Global, name: &str) -> Result<(), NoMemory> {
+    let name = Text::from_text(alloc, name)?;
+    queues.delete(&name);
+    Ok(())
+}
+
+fn lived<L: Ledger>(alloc: Global, blank: Blank) -> Result<[Option<(u64, u64)>; 5], NoMemory>
     requires name { blank.name ≡ L.name }
     requires parts { blank.parts ≡ L.parts }
     requires some { 0 < L.parts }
 {
     let mut steps = Steps::<L>::open(blank);
     let mut queues = Queues::new(alloc)?;
-    let mut seen = Vec::new(alloc);
-    declare(&mut queues, alloc, "one")?;
-    declare(&mut queues, alloc, "other")?;
-    for _ in 0..5u8 {
-        add(&mut queues, alloc, "one")?;
-        add(&mut queues, alloc, "other")?;
-    }
-    acquire(&mut queues, alloc, "one", 7, &mut steps)?;
-    acquire(&mut queues, alloc, "one", 7, &mut steps)?;
-    acquire(&mut queues, alloc, "other", 7, &mut steps)?;
-    seen.push(counts(&queues, alloc, "one")?)?;
-    let one = Text::from_text(alloc, "one")?;
-    seen.push(Some((queues.purge(&one), 0)))?;
-    seen.push(counts(&queues, alloc, "one")?)?;
-    seen.push(Some((leave(&mut queues, 7, &mut steps), 0)))?;
-    seen.push(counts(&queues, alloc, "one")?)?;
-    queues.delete(&one);
-    seen.push(counts(&queues, alloc, "one")?)?;
-    seen.push(counts(&queues, alloc, "other")?)?;
-    Ok(seen)
+    fill(&mut queues, alloc)?;
+    live(&mut queues, alloc, &mut steps)
 }
 
 #[test]
 fn a_queue_has_its_copies_and_no_others(rt: HostRuntime) -> Result<(), Fail> {
-    let wanted = [
-        Some((3, 2)),
-        Some((3, 0)),
-        Some((0, 2)),
-        Some((3, 0)),
-        Some((2, 0)),
-        None,
-        Some((5, 0)),
-    ];
     assert_eq!(rt;
-        live::<Brand>(rt.alloc(), Blank::new(1))?.as_slice(),
-        wanted.as_slice()
+        lived::<Brand>(rt.alloc(), Blank::new(1))?,
+        [Some((3, 2)), Some((0, 2)), Some((3, 0)), Some((2, 0)), None]
     );
     Ok(())
 }
@@ -147,25 +166,29 @@ fn names(queues: &Queues) -> u64 {
     digits
 }
 
+/// Declares three queues, each with its own name as alternate exchange.
+fn three(queues: &mut Queues, alloc: Global) -> Result<(), NoMemory> {
+    declare(queues, alloc, "bb")?;
+    declare(queues, alloc, "aaa")?;
+    declare(queues, alloc, "c")
+}
+
+/// Whether the queue is no longer durable, exclusive or auto-delete.
+fn is_plain(queues: &Queues, name: &Text) -> bool {
+    match queues.marks(name) {
+        Some(marks) => !marks.durable && marks.exclusive.is_none() && !marks.auto_delete,
+        None => false,
+    }
+}
+
 #[test]
 fn queues_come_by_name_and_keep_their_marks(rt: HostRuntime) -> Result<(), Fail> {
-    let alloc = rt.alloc();
-    let mut queues = Queues::new(alloc)?;
-    for name in ["bb", "aaa", "c"] {
-        declare(&mut queues, alloc, name)?;
-    }
+    let mut queues = Queues::new(rt.alloc())?;
+    three(&mut queues, rt.alloc())?;
+    let name = Text::from_text(rt.alloc(), "aaa")?;
     assert_eq!(rt; names(&queues), 321);
-    let name = Text::from_text(alloc, "aaa")?;
-    assert!(rt; queues.is_alternate(&name));
     queues.plain(&name);
-    match queues.marks(&name) {
-        Some(marks) => {
-            assert!(rt; !marks.durable && marks.exclusive.is_none() && !marks.auto_delete);
-            assert!(rt; marks.alternate == name);
-        }
-        None => assert!(rt; false),
-    }
-    assert_eq!(rt; names(&queues), 321);
+    assert!(rt; is_plain(&queues, &name) && queues.is_alternate(&name));
     queues.delete(&name);
     assert!(rt; !queues.is_alternate(&name));
     assert_eq!(rt; names(&queues), 21);
