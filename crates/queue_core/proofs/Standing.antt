@@ -10,7 +10,7 @@ use Rattle.named_lists.specs.Lists.{lists_of, times, Parted}
 use Rattle.named_lists.proofs.Parting.{one_if, times_last, times_put, times_out, put_parted, take_parted}
 use Rattle.queue_copies.specs.Copied.{Copied, copies_at}
 use Rattle.queue_core.specs.declared.marks.QueueMarks.{QueueMarks}
-use Rattle.queue_core.specs.Queues.{Stands}
+use Rattle.queue_core.specs.Queues.{Stands, OwnLists}
 
 same : (n : ℕ) → (n == n) ≡ true
 same n = grind (arith, nat_tests)
@@ -118,3 +118,14 @@ some_queue x y e = ap (λ (o : Option (QueueMarks × ℕ)). elim o [ None ↦ x 
 
 pub found_same : (name : List ℕ) (entries : List (List ℕ × (QueueMarks × ℕ))) (x y : QueueMarks × ℕ) → find name entries ≡ Some x → find name entries ≡ Some y → x ≡ y
 found_same name entries x y p q = some_queue x y (sym p ∙ q)
+
+at_most_one : (b : Bool) (m n : ℕ) → m + n ≡ one_if b → m ≤ 1
+at_most_one true m n e = omega (arith, e)
+at_most_one false m n e = omega (arith, e)
+
+pub own_lists : (entries : List (List ℕ × (QueueMarks × ℕ))) (free : List ℕ) (count : ℕ) (lists : List (List Copied)) → Stands entries free count lists → OwnLists entries lists
+own_lists entries free count lists s = record {
+  once = λ l. at_most_one (nat_lt l count) (times l (lists_of entries)) (times l free) (s.parted l);
+  within = λ l le. omega (arith, s.within, in_count l count (times l (lists_of entries) + times l free) (omega (arith, le)) (s.parted l));
+  empty = s.empty;
+}

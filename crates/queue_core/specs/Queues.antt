@@ -1,5 +1,5 @@
 -- Queues by name.
-use Rattle.std.specs.Prelude.{◌≡◌, ℕ, ◌≤◌, ◌||◌, Bool, false, bytes_eq, List, [], ◌∷◌, length, Option, None, Some, slice_set}
+use Rattle.std.specs.Prelude.{◌≡◌, ℕ, ◌<◌, ◌≤◌, ◌||◌, Bool, false, bytes_eq, List, [], ◌∷◌, length, Option, None, Some, slice_set}
 use Rattle.queue_copies.specs.Copied.{Copied, copies_at, available, held_only}
 use Rattle.named_lists.specs.Lists.{lists_of, times, Parted}
 use Rattle.queue_core.specs.declared.marks.QueueMarks.{QueueMarks}
@@ -47,4 +47,10 @@ plain_marks marks = record marks { durable = false; exclusive = None; auto_delet
 pub record Stands (entries : List (List ℕ × (QueueMarks × ℕ))) (free : List ℕ) (count : ℕ) (lists : List (List Copied)) : Type 0 where
   pub parted : Parted (lists_of entries) free count
   pub within : count ≤ length lists
+  pub empty : (list : ℕ) → times list (lists_of entries) ≡ 0 → copies_at lists list ≡ []
+
+-- each list is one queue's at most, a queue's is one of the lists, and what is no queue's is empty
+pub record OwnLists (entries : List (List ℕ × (QueueMarks × ℕ))) (lists : List (List Copied)) : Type 0 where
+  pub once : (list : ℕ) → times list (lists_of entries) ≤ 1
+  pub within : (list : ℕ) → 1 ≤ times list (lists_of entries) → list < length lists
   pub empty : (list : ℕ) → times list (lists_of entries) ≡ 0 → copies_at lists list ≡ []

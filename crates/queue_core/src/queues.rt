@@ -1,13 +1,13 @@
 //! Queues by name.
 ghost use Rattle.std.specs.Prelude.{◌≡◌, ◌+◌, ◌<◌, ◌≤◌, ◌++◌, ◌∷◌, ℕ, [], map, length, replicate, slice_set, is_some, None, Some, OnOk, OnErr, IfOk, IfSome, IfNone, IsSome};
 ghost use Rattle.std.specs.Option.{option_copied};
-ghost use Rattle.name_map.specs.Named.{find, put, out};
+ghost use Rattle.name_map.specs.Named.{Sorted, find, put, out};
 ghost use Rattle.number_tree.specs.Numbers.{first_above};
 ghost use Rattle.queue_copies.specs.Iter.{pair};
-ghost use Rattle.queue_copies.specs.Copied.{copies_at, find_in, IsThere, IsGreatest, copy_of, hold_of, changed, removed, held_by, released, available, held_only};
+ghost use Rattle.queue_copies.specs.Copied.{Ordered, copies_at, find_in, IsThere, IsGreatest, copy_of, hold_of, changed, removed, held_by, released, available, held_only};
 ghost use Rattle.held_copies.specs.Lanes.{session_in};
 ghost use Rattle.held_copies.specs.Holding.{session_of};
-ghost use Rattle.queue_core.specs.Queues.{copies_in, at_name, marks_in, counts_in, names_of, has_alternate, plain_marks};
+ghost use Rattle.queue_core.specs.Queues.{copies_in, at_name, marks_in, counts_in, names_of, has_alternate, plain_marks, OwnLists};
 ghost use Rattle.queue_core.specs.declared.marks.QueueMarks.{QueueMarks as Marks};
 
 use crate::marks::QueueMarks;
@@ -141,6 +141,7 @@ impl Queues {
     /// Makes room for so many more copies. Nothing else changes.
     pub fn reserve(&mut self, more: usize) -> Result<(), NoMemory>
         ensures spare { OnOk result (more ≤ self.new.spare) }
+        ensures kept { self.old.spare ≤ self.new.spare }
         ensures entries { self.new.entries ≡ self.old.entries }
         ensures lists { self.new.lists ≡ self.old.lists }
         ensures room { self.new.room ≡ self.old.room }
@@ -153,6 +154,8 @@ impl Queues {
     pub fn room(&mut self, queues: usize, sessions: usize) -> Result<(), NoMemory>
         ensures room { OnOk result (queues ≤ self.new.room) }
         ensures sessions { OnOk result (sessions ≤ self.new.sessions) }
+        ensures kept_room { self.old.room ≤ self.new.room }
+        ensures kept_sessions { self.old.sessions ≤ self.new.sessions }
         ensures entries { self.new.entries ≡ self.old.entries }
         ensures lists { (more : ℕ) × (self.new.lists ≡ self.old.lists ++ replicate more []) }
         ensures spare { self.new.spare ≡ self.old.spare }
@@ -170,6 +173,8 @@ impl Queues {
         requires { find name.now self.old.entries ≡ None }
         ensures ok { OnOk result ((list : ℕ) × (self.new.entries ≡ put name.now (marks, list) self.old.entries) × (copies_at self.new.lists list ≡ [])) }
         ensures err { OnErr result (self.new.entries ≡ self.old.entries) }
+        ensures room { self.old.room ≤ self.new.room + 1 }
+        ensures sessions { self.old.sessions ≤ self.new.sessions }
         ensures lists { (more : ℕ) × (self.new.lists ≡ self.old.lists ++ replicate more []) }
         ensures spare { self.new.spare ≡ self.old.spare }
     {
@@ -196,6 +201,8 @@ impl Queues {
     pub fn delete(&mut self, name: &Text)
         ensures entries { self.new.entries ≡ out name.now self.old.entries }
         ensures lists { self.new.lists ≡ at_name (find name.now self.old.entries) (λ _. []) self.old.lists }
+        ensures room { IsSome (find name.now self.old.entries) → self.new.room ≡ self.old.room + 1 }
+        ensures kept { self.old.room ≤ self.new.room }
         ensures spare { self.new.spare ≡ self.old.spare }
         ensures sessions { self.new.sessions ≡ self.old.sessions }
     {
@@ -291,9 +298,19 @@ impl Queues {
         first_held_by::<Brand>(&self.copies, session, Blank::new(1))
     }
 
+    /// How many lists there are: each is one queue's at most, and what is no queue's is empty. Takes no memory.
+    pub fn lists(&self) -> usize
+        ensures lists { result ≡ length self.now.lists }
+        ensures own { OwnLists self.now.entries self.now.lists }
+        ensures ordered { Ordered self.now.lists }
+    {
+        self.copies.lists()
+    }
+
     /// The names of all queues, in order. Takes no memory.
     pub fn names(&self) -> QueueNames<'_>
-        ensures { result ≡ names_of self.now.entries }
+        ensures names { result ≡ names_of self.now.entries }
+        ensures sorted { Sorted self.now.entries }
     {
         QueueNames::new(self.names.entries())
     }
