@@ -198,3 +198,17 @@ module _ {T : Type 0} where
     go : (b : Bool) → bytes_eq e.0 name ≡ b → find name (out name es) ≡ None → find name (if b then es else e ∷ out name es) ≡ None
     go true q ih = before_none name es (subst (λ (a : List ℕ). EachName (Before a) es) ((bytes_eq-Decides e.0 name).0 q) s.0)
     go false q ih = ap (λ (b : Bool). if b then Some e.1 else find name (out name es)) q ∙ ih
+
+  -- ---- without the name at an index
+
+  each_remove : (P : List ℕ → Type 0) (es : List (List ℕ × T)) (i : ℕ) → EachName P es → EachName P (remove es i)
+  each_remove P [] zero p = tt
+  each_remove P [] (suc i) p = tt
+  each_remove P (e ∷ es) zero p = p.1
+  each_remove P (e ∷ es) (suc i) p = (p.0, each_remove P es i p.1)
+
+  pub sorted_remove : (es : List (List ℕ × T)) (i : ℕ) → Sorted es → Sorted (remove es i)
+  sorted_remove [] zero s = tt
+  sorted_remove [] (suc i) s = tt
+  sorted_remove (e ∷ es) zero s = s.1
+  sorted_remove (e ∷ es) (suc i) s = (each_remove (Before e.0) es i s.0, sorted_remove es i s.1)

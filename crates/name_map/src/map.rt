@@ -1,6 +1,7 @@
 //! The map.
-ghost use Rattle.std.specs.Prelude.{◌≡◌, ◌+◌, ◌<◌, ◌≤◌, ℕ, [], None, Some, OnOk, OnSome, IfOk, IfErr, IfSome, IfNone};
+ghost use Rattle.std.specs.Prelude.{◌≡◌, ◌+◌, ◌<◌, ◌≤◌, ℕ, [], length, slice_index_or, None, Some, OnOk, OnSome, IfOk, IfErr, IfSome, IfNone};
 ghost use Rattle.std.specs.Ordering.{nat_cmp};
+ghost use Rattle.std.specs.List.{remove};
 ghost use Rattle.std.specs.Option.{option_copied};
 ghost use Rattle.std.specs.Cmp.Lexicographic.{slice_cmp};
 ghost use Rattle.name_map.specs.Named.{Sorted, find, put, out, IsPlace, IsGap};
@@ -110,5 +111,15 @@ impl<T> NameMap<T> {
             Ok(place) => Some(self.entries.remove(place)),
             Err(_) => None,
         }
+    }
+
+    /// Takes the name at an index out; they are counted from 0, in order. Takes no memory.
+    pub fn take_at(&mut self, index: usize) -> (Text, T)
+        requires { index < length self.old.entries }
+        ensures entries { self.new.entries ≡ remove self.old.entries index }
+        ensures entry { result ≡ slice_index_or self.old.entries index result }
+        ensures room { self.new.room ≡ self.old.room + 1 }
+    {
+        self.entries.remove(index)
     }
 }

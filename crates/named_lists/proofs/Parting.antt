@@ -1,5 +1,6 @@
 -- Each list stays a name's or free, once.
-use Rattle.std.proofs.Common.{◌≡◌, ℕ, ◌+◌, ◌==◌, Bool, true, false, if◌then◌else◌, List, [], ◌∷◌, ◌++◌, length, Option, None, Some, bytes_eq, refl, sym, ap, arith}
+use Rattle.std.proofs.Common.{◌≡◌, ℕ, zero, suc, ◌+◌, ◌<◌, ◌==◌, Bool, true, false, if◌then◌else◌, List, [], ◌∷◌, ◌++◌, length, Option, None, Some, bytes_eq, slice_index_or, refl, sym, ap, arith}
+use Rattle.std.specs.List.{remove}
 use Rattle.std.specs.Prelude.{nat_lt}
 use Rattle.std.specs.Cmp.Lexicographic.{slice_cmp}
 use Rattle.std.specs.Ordering.{nat_cmp, is_lt}
@@ -59,6 +60,30 @@ module _ {M : Type 0} where
 
   pub take_parted : (name : List ℕ) (es : List (List ℕ × (M × ℕ))) (x : M × ℕ) (free : List ℕ) (count : ℕ) → find name es ≡ Some x → Parted (lists_of es) free count → Parted (lists_of (out name es)) (free ++ x.1 ∷ []) count
   take_parted name es x free count q p l = omega (arith, p l, times_out l name es x q, times_last l x.1 free)
+
+module _ {M : Type 0} where
+  pub times_remove : (l : ℕ) (es : List (List ℕ × (M × ℕ))) (i : ℕ) (d : List ℕ × (M × ℕ)) → i < length es → one_if ((slice_index_or es i d).1.1 == l) + times l (lists_of (remove es i)) ≡ times l (lists_of es)
+  times_remove l [] i d lt = absurd (omega (arith, lt))
+  times_remove l (e ∷ es) zero d lt = refl
+  times_remove l (e ∷ es) (suc i) d lt = omega (arith, times_remove l es i d (omega (arith, lt)))
+
+  pub length_remove : (es : List (List ℕ × (M × ℕ))) (i : ℕ) → i < length es → length (remove es i) + 1 ≡ length es
+  length_remove [] i lt = absurd (omega (arith, lt))
+  length_remove (e ∷ es) zero lt = omega arith
+  length_remove (e ∷ es) (suc i) lt = omega (arith, length_remove es i (omega (arith, lt)))
+
+  pub remove_parted : (es : List (List ℕ × (M × ℕ))) (i : ℕ) (d : List ℕ × (M × ℕ)) (free : List ℕ) (count : ℕ) → i < length es → Parted (lists_of es) free count → Parted (lists_of (remove es i)) (free ++ (slice_index_or es i d).1.1 ∷ []) count
+  remove_parted es i d free count lt p l = omega (arith, p l, times_remove l es i d lt, times_last l (slice_index_or es i d).1.1 free)
+
+-- a list that was free is no name's
+pub free_out : (used free : List ℕ) (count l : ℕ) → Parted used (free ++ l ∷ []) count → times l used ≡ 0
+free_out used free count l p = go (nat_lt l count) refl where
+  once : one_if (l == l) ≡ 1
+  once = grind (arith, nat_tests)
+
+  go : (b : Bool) → nat_lt l count ≡ b → times l used ≡ 0
+  go true t = omega (arith, p l, times_last l l free, once, ap one_if t)
+  go false t = omega (arith, p l, times_last l l free, once, ap one_if t)
 
 pub widen_parted : (used free : List ℕ) (count : ℕ) → Parted used free count → Parted used (free ++ count ∷ []) (count + 1)
 widen_parted used free count p l = omega (arith, p l, times_last l count free, below_more l count)

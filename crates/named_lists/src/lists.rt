@@ -1,8 +1,9 @@
 //! Names, marks and lists.
-ghost use Rattle.std.specs.Prelude.{◌≡◌, ◌+◌, ◌<◌, ◌≤◌, ◌++◌, ◌∷◌, ℕ, [], length, None, Some, OnOk, IfSome, IfNone};
+ghost use Rattle.std.specs.Prelude.{◌≡◌, ◌+◌, ◌<◌, ◌≤◌, ◌++◌, ◌∷◌, ℕ, [], length, slice_index_or, None, Some, OnOk, IfSome, IfNone};
+ghost use Rattle.std.specs.List.{remove};
 ghost use Rattle.std.specs.Option.{option_copied};
 ghost use Rattle.name_map.specs.Named.{Sorted, find, put, out};
-ghost use Rattle.named_lists.specs.Lists.{Parted, lists_of};
+ghost use Rattle.named_lists.specs.Lists.{Parted, lists_of, times};
 
 use name_map::NameMap;
 use octet_reading::{NoMemory, Text};
@@ -113,6 +114,7 @@ impl<M> NamedLists<M> {
         ensures entries { self.new.entries ≡ put name (marks, result) self.old.entries }
         ensures free { self.old.free ≡ self.new.free ++ result ∷ [] }
         ensures count { self.new.count ≡ self.old.count }
+        ensures fresh { times result (lists_of self.old.entries) ≡ 0 }
     {
         match self.free.pop() {
             Some(list) => {
@@ -134,5 +136,19 @@ impl<M> NamedLists<M> {
         let taken = self.names.take(name)?;
         self.free.push_reserved(taken.1.1);
         Some(taken)
+    }
+
+    /// Takes the name at an index out, whose list is free then. Takes no memory.
+    pub fn take_at(&mut self, index: usize) -> (Text, (M, usize))
+        requires { index < length self.old.entries }
+        ensures entries { self.new.entries ≡ remove self.old.entries index }
+        ensures entry { result ≡ slice_index_or self.old.entries index result }
+        ensures free { self.new.free ≡ self.old.free ++ result.1.1 ∷ [] }
+        ensures count { self.new.count ≡ self.old.count }
+    {
+        let taken = self.names.take_at(index);
+        let list = taken.1.1;
+        self.free.push_reserved(list);
+        taken
     }
 }

@@ -1,0 +1,11 @@
+//! Exchanges by name, their bindings, and what they route where.
+#![tactic(auto)]
+
+mod exchanges;
+mod iter;
+mod marks;
+mod routes;
+
+pub use exchanges::Exchanges;
+pub use iter::ExchangeNames;
+pub use marks::{Binding, BoundBits, ExchangeMarks, Kind, Names};
