@@ -1,18 +1,20 @@
 -- What is no exchange's number has no bindings.
-use Rattle.std.proofs.Common.{◌≡◌, ℕ, ◌+◌, ◌==◌, not, Bool, true, false, if◌then◌else◌, List, [], ◌∷◌, ◌++◌, filter, Option, Some, refl, sym, ap, subst, ◌∙◌, arith}
+use Rattle.std.proofs.Common.{◌≡◌, ℕ, ◌<◌, ◌==◌, ◌&&◌, not, Bool, true, false, if◌then◌else◌, List, [], ◌∷◌, ◌++◌, length, filter, bytes_eq, slice_index_or, Some, refl, sym, ap, ◌∙◌, arith}
 use Rattle.std.proofs.lemmas.Bool.{true≢false, eqb-true}
+use Rattle.std.specs.List.{remove}
 use Rattle.std.specs.Ordering.{is_lt, is_gt, is_eq}
 use Rattle.name_map.specs.Named.{find, out}
 use Rattle.name_map.specs.Named as named
 use Rattle.named_lists.specs.Lists.{lists_of, times}
-use Rattle.named_lists.proofs.Parting.{one_if, times_put, times_out}
+use Rattle.named_lists.proofs.Parting.{one_if, times_put, times_out, times_remove}
 use Rattle.binding_table.specs.Spots.{Spot, spot}
-use Rattle.binding_table.specs.Rows.{is_of, put, before, behind, from_spot}
+use Rattle.binding_table.specs.Rows.{is_of, is_of_queue, put, before, behind, from_spot}
 use Rattle.binding_table.specs.Rows as table
 use Rattle.exchange_core.specs.declared.marks.ExchangeMarks.{ExchangeMarks}
 use Rattle.exchange_core.specs.Routes.{Rowed, has_none}
-use Rattle.exchange_core.specs.Exchanges.{Entry, OwnRows}
-use Rattle.exchange_core.proofs.Filtering.{filter_still, filter_none}
+use Rattle.exchange_core.specs.Exchanges.{Entry, OwnRows, is_other}
+use Rattle.exchange_core.proofs.Filtering.{filter_still, filter_none, filter_both}
+use Rattle.binding_table.proofs.Cutting.{filter_same}
 
 pub put_owns : (entries : List Entry) (rows : List Rowed) → OwnRows entries rows → (name : List ℕ) (x : ExchangeMarks × ℕ) → OwnRows (named.put name x entries) rows
 put_owns entries rows o name x n z = o n (omega (arith, z, times_put n name x entries))
@@ -63,3 +65,19 @@ ended_owns entries rows o name x q none n z = go (x.1 == n) refl where
 pub none_is : (rows : List Rowed) → has_none rows ≡ true → rows ≡ []
 none_is [] e = refl
 none_is (row ∷ rows) e = absurd (true≢false (sym e))
+
+-- without the exchange at an index that has no binding
+pub removed_owns : (entries : List Entry) (rows : List Rowed) → OwnRows entries rows → (i : ℕ) (d : Entry) → i < length entries → filter (is_of (slice_index_or entries i d).1.1) rows ≡ [] → OwnRows (remove entries i) rows
+removed_owns entries rows o i d lt none n z = go ((slice_index_or entries i d).1.1 == n) refl where
+  go : (b : Bool) → ((slice_index_or entries i d).1.1 == n) ≡ b → filter (is_of n) rows ≡ []
+  go true e = ap (λ (m : ℕ). filter (is_of m) rows) (sym (eqb-true (slice_index_or entries i d).1.1 n e)) ∙ none
+  go false e = o n (omega (arith, z, times_remove n entries i d lt, ap one_if e))
+
+-- bindings of other queues stay
+pub others_stay : (n : ℕ) (queue : List ℕ) (rows : List Rowed) → filter (is_other queue) (filter (λ r. not (is_of_queue n queue r)) rows) ≡ filter (is_other queue) rows
+others_stay n queue rows = filter_both (is_other queue) (λ r. not (is_of_queue n queue r)) rows ∙ filter_same (λ r. not (is_of_queue n queue r) && is_other queue r) (is_other queue) (λ r. same (is_of n r) (bytes_eq r.binding.queue queue)) rows where
+  same : (a b : Bool) → (not (a && b) && not b) ≡ not b
+  same true true = refl
+  same true false = refl
+  same false true = refl
+  same false false = refl

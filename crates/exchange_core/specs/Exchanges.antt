@@ -1,5 +1,6 @@
 -- Exchanges by name, and their bindings.
-use Rattle.std.specs.Prelude.{◌≡◌, ℕ, ◌==◌, ◌&&◌, ◌||◌, not, Bool, true, false, if◌then◌else◌, bytes_eq, List, [], ◌∷◌, map, filter, flat_map, Option, None, Some, is_some}
+use Rattle.std.specs.Prelude.{◌≡◌, ℕ, ◌&&◌, ◌||◌, not, Bool, true, false, if◌then◌else◌, bytes_eq, List, [], ◌∷◌, ◌++◌, map, filter, Option, None, Some, is_some}
+use Rattle.std.specs.Borrow.{Bor}
 use Rattle.std.specs.List.{list_any}
 use Rattle.amqp_values.specs.declared.value.Value.{Value}
 use Rattle.name_map.specs.Named as named
@@ -9,6 +10,8 @@ use Rattle.binding_table.specs.Spots.{Spot}
 use Rattle.binding_table.specs.Rows.{is_of, is_of_queue, find, put, out}
 use Rattle.exchange_core.specs.declared.marks.BoundBits.{BoundBits}
 use Rattle.exchange_core.specs.declared.marks.ExchangeMarks.{ExchangeMarks}
+use Rattle.exchange_core.specs.declared.marks.Kind.{Kind}
+use Rattle.exchange_core.specs.declared.marks.Kind.TheVariants as kinds
 use Rattle.exchange_core.specs.Routes.{Rowed, queues_of, is_asked, has_entry, has_none}
 
 abbrev pub Entry : Type 0
@@ -112,3 +115,37 @@ ends (Some exchange) queue key rows =
 
 abbrev pub after_unbinding : List ℕ → Option (ExchangeMarks × ℕ) → List ℕ → List ℕ → List Rowed → List Entry → List Entry
 after_unbinding name exchange queue key rows entries = if ends exchange queue key rows then named.out name entries else entries
+
+abbrev pub is_other : List ℕ → Rowed → Bool
+is_other queue row = not (bytes_eq row.binding.queue queue)
+
+-- ---- all bindings
+
+abbrev pub pair_of : List ℕ → Rowed → List ℕ × Binding (Option Value)
+pair_of name row = (name, row.binding)
+
+-- each exchange's bindings with its name
+abbrev pub pairs_of : List Entry → List Rowed → List (List ℕ × Binding (Option Value))
+pairs_of [] rows = []
+pairs_of (e ∷ es) rows = map (pair_of e.0) (filter (is_of e.1.1) rows) ++ pairs_of es rows
+
+-- what is left of the bindings of an exchange at hand, and those of the exchanges behind it
+abbrev pub left_of : Option (Bor (List ℕ) × List Rowed) → List Entry → List Rowed → List (List ℕ × Binding (Option Value))
+left_of None entries rows = pairs_of entries rows
+left_of (Some hand) entries rows = map (pair_of hand.0.now) hand.1 ++ pairs_of entries rows
+
+-- ---- the exchanges that are there from the start
+
+abbrev pub first_marks : Kind → ExchangeMarks
+first_marks kind = record { kind = kind; durable = true; auto_delete = false; alternate = []; arguments = None }
+
+-- amq.direct, amq.fanout, amq.match and amq.topic
+abbrev pub IsFirst : List Entry → Type 0
+IsFirst entries =
+    (a b c d : ℕ)
+    × (entries
+    ≡ ((97 ∷ 109 ∷ 113 ∷ 46 ∷ 100 ∷ 105 ∷ 114 ∷ 101 ∷ 99 ∷ 116 ∷ []), (first_marks kinds.Direct, a))
+    ∷ ((97 ∷ 109 ∷ 113 ∷ 46 ∷ 102 ∷ 97 ∷ 110 ∷ 111 ∷ 117 ∷ 116 ∷ []), (first_marks kinds.Fanout, b))
+    ∷ ((97 ∷ 109 ∷ 113 ∷ 46 ∷ 109 ∷ 97 ∷ 116 ∷ 99 ∷ 104 ∷ []), (first_marks kinds.Headers, c))
+    ∷ ((97 ∷ 109 ∷ 113 ∷ 46 ∷ 116 ∷ 111 ∷ 112 ∷ 105 ∷ 99 ∷ []), (first_marks kinds.Topic, d))
+    ∷ [])

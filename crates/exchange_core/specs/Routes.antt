@@ -1,5 +1,5 @@
 -- Which bindings take a message, and which queues it goes to (AMQP 0-10, "exchange").
-use Rattle.std.specs.Prelude.{ℕ, ◌&&◌, ◌||◌, not, Bool, true, false, if◌then◌else◌, List, [], ◌∷◌, map, filter, bytes_eq, Option, None, Some}
+use Rattle.std.specs.Prelude.{ℕ, ◌&&◌, Bool, true, false, if◌then◌else◌, List, [], ◌∷◌, map, filter, bytes_eq, Option, None, Some}
 use Rattle.amqp_values.specs.declared.value.Value.{Value}
 use Rattle.binding_table.specs.declared.row.Row.{Row}
 use Rattle.topic_keys.specs.Topics.{words}

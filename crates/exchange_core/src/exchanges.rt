@@ -3,9 +3,9 @@ ghost use Rattle.std.specs.Prelude.{◌≡◌, ◌+◌, ◌<◌, ◌≤◌, ℕ,
 ghost use Rattle.std.specs.Option.{option_copied};
 ghost use Rattle.name_map.specs.Named.{Sorted, find, put, out};
 ghost use Rattle.binding_table.specs.Rows.{is_of};
-ghost use Rattle.exchange_core.specs.Exchanges.{marks_in, rows_in, rows_without, names_of, has_alternate, routed, counting, bound_bits, with_binding, without_binding, is_there, after_unbinding};
+ghost use Rattle.exchange_core.specs.Exchanges.{marks_in, rows_in, rows_without, names_of, has_alternate, routed, counting, bound_bits, with_binding, without_binding, is_there, after_unbinding, OwnRows, is_other, first_marks, IsFirst, pairs_of};
 
-use crate::iter::ExchangeNames;
+use crate::iter::{ExchangeBindings, ExchangeNames};
 use crate::marks::{Binding, BoundBits, ExchangeMarks, Kind, Names};
 use crate::routes::{any_asked, has_entry, is_empty, queues_of};
 use amqp_values::Value;
@@ -52,7 +52,69 @@ fn is_among(entries: &[(Text, (ExchangeMarks, usize))], exchange: &Text) -> bool
     false
 }
 
+/// Takes the bindings of a queue at all exchanges away, and the exchanges that end so.
+fn unbind_all(
+    names: &mut NamedLists<ExchangeMarks>,
+    bindings: &mut Bindings<Option<Value>>,
+    queue: &Text,
+)
+    requires { OwnRows names.old.entries bindings.old.rows }
+    ensures owns { OwnRows names.new.entries bindings.new.rows }
+    ensures others { filter (is_other queue.now) bindings.new.rows ≡ filter (is_other queue.now) bindings.old.rows }
+    ensures free { length names.old.free ≤ length names.new.free }
+    ensures room { bindings.old.room ≤ bindings.new.room }
+{
+    let mut index = 0;
+    while index < names.entries().len() {
+        let exchange = &names.entries()[index].1;
+        let ends = exchange.0.auto_delete;
+        let number = exchange.1;
+        let bound = !is_empty(bindings.of_queue(number, queue));
+        bindings.clear_queue(number, queue);
+        if bound && ends && is_empty(bindings.of_exchange(number)) {
+            drop(names.take_at(index));
+        } else {
+            index += 1;
+        }
+    }
+}
+
+/// Declares one of the exchanges that are there from the start.
+fn start(made: &mut Exchanges, name: &str, kind: Kind) -> Result<(), NoMemory>
+    requires { find name.now made.old.entries ≡ None }
+    ensures ok { OnOk result ((n : ℕ) × (made.new.entries ≡ put name.now (first_marks kind, n) made.old.entries)) }
+    ensures rows { made.new.rows ≡ made.old.rows }
+{
+    let name = Text::from_text(made.alloc, name)?;
+    let marks = ExchangeMarks {
+        kind,
+        durable: true,
+        auto_delete: false,
+        alternate: Text::from_text(made.alloc, "")?,
+        arguments: None,
+    };
+    made.declare(&name, marks)
+}
+
 impl Exchanges {
+    /// The exchanges that are there from the start: `amq.direct`, `amq.fanout`, `amq.topic` and `amq.match`, which is one
+    /// for headers. They are durable.
+    pub fn new(alloc: Global) -> Result<Exchanges, NoMemory>
+        ensures names { IfOk result (λ made. IsFirst made.entries) }
+        ensures rows { IfOk result (λ made. made.rows ≡ []) }
+    {
+        let mut made = Exchanges {
+            alloc,
+            names: NamedLists::new(alloc),
+            bindings: Bindings::new(alloc),
+        };
+        start(&mut made, "amq.direct", Kind::Direct)?;
+        start(&mut made, "amq.fanout", Kind::Fanout)?;
+        start(&mut made, "amq.topic", Kind::Topic)?;
+        start(&mut made, "amq.match", Kind::Headers)?;
+        Ok(made)
+    }
+
     /// Makes room for so many exchanges, and for so many bindings. No exchange and no binding changes.
     pub fn room(&mut self, exchanges: usize, bindings: usize) -> Result<(), NoMemory>
         ensures room { OnOk result (exchanges ≤ self.new.room) }
@@ -295,5 +357,22 @@ impl Exchanges {
             drop(self.names.take(exchange));
         }
         true
+    }
+
+    /// Takes the bindings of a queue at all exchanges away. Exchanges that end with their last binding and lose it here end
+    /// so. Takes no memory.
+    pub fn unbind_queue(&mut self, queue: &Text)
+        ensures others { filter (is_other queue.now) self.new.rows ≡ filter (is_other queue.now) self.old.rows }
+        ensures room { self.old.room ≤ self.new.room }
+        ensures spare { self.old.spare ≤ self.new.spare }
+    {
+        unbind_all(&mut self.names, &mut self.bindings, queue);
+    }
+
+    /// All bindings, each with the name of its exchange, by that name, the queue and the key. Takes no memory.
+    pub fn bindings(&self) -> ExchangeBindings<'_>
+        ensures { result ≡ pairs_of self.now.entries self.now.rows }
+    {
+        ExchangeBindings::new(self.names.entries(), &self.bindings)
     }
 }

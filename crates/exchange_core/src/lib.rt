@@ -5,7 +5,9 @@ mod exchanges;
 mod iter;
 mod marks;
 mod routes;
+#[cfg(test)]
+mod tests;
 
 pub use exchanges::Exchanges;
-pub use iter::ExchangeNames;
+pub use iter::{ExchangeBindings, ExchangeNames};
 pub use marks::{Binding, BoundBits, ExchangeMarks, Kind, Names};

@@ -1,6 +1,5 @@
 -- The last name is the one at the last index.
-use Rattle.std.proofs.Common.{rules, ◌≡◌, ◌∙◌, ℕ, List, Option, Some, length, ◌-◌, sym, ap}
-use Rattle.std.specs.List.{slice_get}
+use Rattle.std.proofs.Common.{rules, ◌≡◌, ◌∙◌, ℕ, List, Option, Some, ap}
 use Rattle.exchange_core.specs.Routes.{is_same, last_of}
 use Rattle.exchange_core.proofs.Gathering.{last_get}
 use Rattle.exchange_core.proofs.routes.is_last.Goals as goal

@@ -1,5 +1,5 @@
 -- A queue more, where it differs from the one before.
-use Rattle.std.proofs.Common.{rules, ◌≡◌, ◌∙◌, ◌&&◌, ◌++◌, ◌∷◌, [], not, List, ℕ, true, sym, ap}
+use Rattle.std.proofs.Common.{rules, ◌≡◌, ◌∙◌, ◌++◌, ◌∷◌, [], not, List, ℕ, true, sym, ap}
 use Rattle.std.specs.Option.{option_copied}
 use Rattle.exchange_core.specs.Routes.{Rowed, takes, is_same, last_of}
 use Rattle.exchange_core.proofs.Gathering.{left, gained, both_true}

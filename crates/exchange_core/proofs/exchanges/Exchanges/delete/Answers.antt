@@ -1,8 +1,7 @@
 -- The exchange's number has no bindings then.
-use Rattle.std.proofs.Common.{rules, ◌≡◌, ◌∙◌, ℕ, List, Option, Some, sym, ap, subst, not, filter}
+use Rattle.std.proofs.Common.{◌∙◌, ℕ, List, Option, sym, ap, subst}
 use Rattle.name_map.specs.Named.{find, out}
 use Rattle.name_map.proofs.Placing.{out_none}
-use Rattle.binding_table.specs.Rows.{is_of}
 use Rattle.exchange_core.specs.declared.marks.ExchangeMarks.{ExchangeMarks}
 use Rattle.exchange_core.specs.Routes.{Rowed}
 use Rattle.exchange_core.specs.Exchanges.{Exchanged, Entry, OwnRows, rows_without}

@@ -1,7 +1,6 @@
 -- The exchange's number had no bindings.
-use Rattle.std.proofs.Common.{◌≡◌, ◌∙◌, ℕ, List, [], sym, ap, subst, filter}
+use Rattle.std.proofs.Common.{◌∙◌, List, sym, ap, subst}
 use Rattle.name_map.specs.Named.{put}
-use Rattle.binding_table.specs.Rows.{is_of}
 use Rattle.exchange_core.specs.Exchanges.{Exchanged, Entry, OwnRows}
 use Rattle.exchange_core.proofs.Owning.{put_owns}
 use Rattle.exchange_core.proofs.exchanges.Exchanges.place.Goals as goal

@@ -2,7 +2,7 @@
 use Rattle.std.proofs.Common.{rules, ◌≡◌, ◌∙◌, ℕ, List, IfOk, Option, Some, filter, map, sym, ap, subst}
 use Rattle.std.specs.Option.{option_copied}
 use Rattle.name_map.specs.Named.{find}
-use Rattle.binding_table.specs.Rows.{is_of, has_key}
+use Rattle.binding_table.specs.Rows.{is_of}
 use Rattle.exchange_core.specs.declared.marks.ExchangeMarks.{ExchangeMarks}
 use Rattle.exchange_core.specs.declared.marks.Kind.{Kind}
 use Rattle.exchange_core.specs.declared.marks.Kind.TheVariants as kinds

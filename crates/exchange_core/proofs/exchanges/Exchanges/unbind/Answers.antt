@@ -1,6 +1,6 @@
 -- Bindings go, and an exchange that has none left.
-use Rattle.std.proofs.Common.{rules, ◌≡◌, ◌∙◌, ℕ, List, [], Some, sym, ap, subst, filter}
-use Rattle.name_map.specs.Named.{find, out}
+use Rattle.std.proofs.Common.{rules, ◌≡◌, ◌∙◌, List, [], Some, sym, ap, subst, filter}
+use Rattle.name_map.specs.Named.{find}
 use Rattle.binding_table.specs.Rows.{is_of}
 use Rattle.exchange_core.specs.Routes.{Rowed, has_none}
 use Rattle.exchange_core.specs.Exchanges.{Entry, OwnRows}

@@ -1,0 +1,15 @@
+-- What is kept while bindings go; the exchanges that are left to be looked at get fewer.
+use Rattle.std.proofs.Common.{◌≡◌, ◌≤◌, ◌-◌, length, filter}
+use Rattle.exchange_core.specs.Exchanges.{OwnRows, is_other}
+use Rattle.exchange_core.proofs.exchanges.unbind_all.Given as goal
+
+abbrev pub invariant-loop-index : goal.invariant-loop-index
+invariant-loop-index l = record {
+  owns : OwnRows l.names.entries l.bindings.rows;
+  others : filter (is_other l.queue) l.bindings.rows ≡ filter (is_other l.queue) l.initial.bindings.rows;
+  free : length l.initial.names.free ≤ length l.names.free;
+  room : l.initial.bindings.room ≤ l.bindings.room;
+}
+
+abbrev pub decreases-loop-index : goal.decreases-loop-index
+decreases-loop-index l = length l.names.entries - l.index
