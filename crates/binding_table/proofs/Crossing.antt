@@ -1,5 +1,5 @@
 -- Rows that pass a test come in the same order from both orders of a table, where the test ties the exchange and the key.
-use Rattle.std.proofs.Common.{◌≡◌, ◌≢◌, ℕ, zero, suc, ◌+◌, ◌<◌, ◌≤◌, ◌==◌, ◌&&◌, Bool, true, false, if◌then◌else◌, List, [], ◌∷◌, ◌⊎◌, inl, inr, length, map, filter, slice_index_or, bytes_eq, Option, None, Some, refl, sym, ap, subst, ◌∙◌, arith}
+use Rattle.std.proofs.Common.{◌≡◌, ◌≢◌, ℕ, ◌+◌, ◌<◌, ◌==◌, ◌&&◌, Bool, true, false, if◌then◌else◌, List, [], ◌∷◌, ◌⊎◌, inl, inr, length, map, filter, bytes_eq, Option, None, Some, refl, sym, ap, ◌∙◌, arith}
 use Rattle.std.proofs.lemmas.Bool.{true≢false, cases_eq}
 use Rattle.std.proofs.lemmas.Map.Text.{is_eq-slice_cmp}
 use Rattle.std.proofs.lemmas.Cmp.{nat_cmp_total, nat_list_cmp_total}
@@ -13,7 +13,7 @@ use Rattle.std.specs.List.Sorted.{IsStrictlySortedBy}
 use Rattle.named_lists.specs.Lists.{times}
 use Rattle.binding_table.specs.declared.order.By.TheVariants as by
 use Rattle.binding_table.specs.declared.row.Row.{Row}
-use Rattle.binding_table.specs.Spots.{Spot, spot, order}
+use Rattle.binding_table.specs.Spots.{spot, order}
 use Rattle.binding_table.specs.Rows.{collect, Kept, has_key}
 use Rattle.binding_table.proofs.Cuts.{row_total}
 use Rattle.binding_table.proofs.Sorting.{shown_head, shown_tail, shown_at, shown_length, collected}

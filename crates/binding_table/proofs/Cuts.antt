@@ -1,9 +1,8 @@
 -- Along each order the cuts rise.
-use Rattle.std.proofs.Common.{◌≡◌, ◌≤◌, ℕ, List, [], true, refl, sym, ap, ◌∙◌, arith}
+use Rattle.std.proofs.Common.{◌≡◌, ◌≤◌, [], true, refl, sym, ap, ◌∙◌}
 use Rattle.std.proofs.lemmas.Cmp.{then_total, nat_cmp_total, nat_list_cmp_total}
 use Rattle.std.specs.Cmp.{IsTotalOrder, on_total}
-use Rattle.std.specs.Cmp.Lexicographic.{slice_cmp}
-use Rattle.std.specs.Ordering.{is_le, is_eq, ordering_index, ordering_reverse, ordering_then, nat_cmp, then_cmp, on}
+use Rattle.std.specs.Ordering.{is_le, is_eq, ordering_index, ordering_then, then_cmp, on}
 use Rattle.std.specs.declared.cmp.Ordering.{Ordering}
 use Rattle.std.specs.declared.cmp.Ordering.TheVariants.{Less, Equal, Greater}
 use Rattle.std.proofs.lemmas.Bool.{true≢false}

@@ -1,5 +1,5 @@
 -- A table's two orders keep the same keys.
-use Rattle.std.proofs.Common.{◌≡◌, ◌≢◌, ℕ, ◌+◌, ◌<◌, ◌≤◌, List, [], ◌∷◌, ◌++◌, length, Option, None, Some, slice_index_or, refl, sym, ap, subst, ◌∙◌, arith}
+use Rattle.std.proofs.Common.{◌≡◌, ◌≢◌, ℕ, ◌<◌, ◌≤◌, List, [], ◌∷◌, ◌++◌, length, Option, None, Some, slice_index_or, refl, sym, ap, subst, ◌∙◌, arith}
 use Rattle.std.proofs.lemmas.Bool.{true≢false}
 use Rattle.std.specs.Ordering.{on, is_lt, is_gt, nat_cmp, ordering_then}
 use Rattle.std.specs.Cmp.Lexicographic.{slice_cmp}
@@ -11,7 +11,7 @@ use Rattle.named_lists.specs.Lists.{times}
 use Rattle.binding_table.specs.declared.order.By.TheVariants as by
 use Rattle.binding_table.specs.declared.row.Row.{Row}
 use Rattle.binding_table.specs.Spots.{spot, order}
-use Rattle.binding_table.specs.Rows.{collect, before, within, behind, Kept, IsOrder}
+use Rattle.binding_table.specs.Rows.{collect, before, within, behind, Kept}
 use Rattle.binding_table.proofs.Cuts.{row_total}
 use Rattle.binding_table.proofs.Changing.{less_order, less_alike, more_order, key_index, counted, index_is, place_of, found_is, none_at, none_within, times_insert}
 use Rattle.binding_table.proofs.Sorting.{shown_length, shown_at}

@@ -4,13 +4,10 @@ use Rattle.std.specs.Ordering.{nat_cmp, then_cmp, ordering_then}
 use Rattle.std.specs.declared.cmp.Ordering.{Ordering}
 use Rattle.std.specs.Cmp.Lexicographic.{slice_cmp}
 use Rattle.std.specs.Prelude.{List}
-use Rattle.std.specs.Borrow.{Bor}
-use Rattle.octet_reading.specs.declared.text.Text.{Text}
 use Rattle.binding_table.specs.declared.order.By.{By}
 use Rattle.binding_table.specs.declared.order.By.TheVariants as by
 use Rattle.binding_table.specs.declared.order.Cut.{Cut}
 use Rattle.binding_table.specs.declared.order.Cut.TheVariants as cut
-use Rattle.binding_table.specs.declared.row.Binding.{Binding}
 use Rattle.binding_table.specs.declared.row.Row.{Row}
 
 pub record Spot : Type 0 where

@@ -338,31 +338,41 @@ fn all_names(exchanges: &Exchanges, alloc: Global) -> Result<Names, NoMemory> {
     Ok(names)
 }
 
-/// Declares and binds where room was made first.
-fn place(exchanges: &mut Exchanges, alloc: Global) -> Result<(), NoMemory> {
-    let name = Text::from_text(alloc, "a")?;
-    let marks = marks(alloc, Kind::Direct, false)?;
-    let binding = Binding {
-        queue: Text::from_text(alloc, "q")?,
-        key: Text::from_text(alloc, "k")?,
-        arguments: None,
-    };
-    let topic = Text::from_text(alloc, "amq.topic")?;
-    exchanges.room(1, 1)?;
-    if exchanges.marks(&topic).is_some() {
-        exchanges.tie(&topic, binding);
+/// Binds where room was made first.
+fn tie(exchanges: &mut Exchanges, exchange: &Text, binding: Binding) -> bool {
+    if exchanges.room(0, 1).is_err() || exchanges.marks(exchange).is_none() {
+        drop(binding);
+        return false;
     }
-    if exchanges.marks(&name).is_none() {
-        exchanges.place(name, marks);
+    exchanges.tie(exchange, binding);
+    true
+}
+
+/// Declares where room was made first.
+fn place(exchanges: &mut Exchanges, name: Text, marks: ExchangeMarks) -> bool {
+    if exchanges.room(1, 0).is_err() || exchanges.marks(&name).is_some() {
+        drop((name, marks));
+        return false;
     }
-    Ok(())
+    exchanges.place(name, marks);
+    true
 }
 
 #[test]
 fn exchanges_and_bindings_by_name(rt: HostRuntime) -> Result<(), Fail> {
     let alloc = rt.alloc();
     let mut exchanges = Exchanges::new(alloc)?;
-    place(&mut exchanges, alloc)?;
+    let marks = marks(alloc, Kind::Direct, false)?;
+    assert!(rt; place(&mut exchanges, Text::from_text(alloc, "a")?, marks));
+    let topic = Text::from_text(alloc, "amq.topic")?;
+    let queue = Text::from_text(alloc, "q")?;
+    let key = Text::from_text(alloc, "k")?;
+    let binding = Binding {
+        queue,
+        key,
+        arguments: None,
+    };
+    assert!(rt; tie(&mut exchanges, &topic, binding));
     assert!(rt; bind(&mut exchanges, alloc, &[("a", "q", "k", NONE)])?);
     assert!(rt;
         are(

@@ -1,5 +1,5 @@
 -- Two values of one variant.
-use Rattle.std.proofs.Common.{◌≡◌, ℕ, ◌==◌, ◌&&◌, List, Bool, map, bytes_eq, sym, ap, ◌∙◌}
+use Rattle.std.proofs.Common.{◌≡◌, ℕ, ◌==◌, ◌&&◌, List, map, bytes_eq, sym, ap, ◌∙◌}
 use Rattle.amqp_values.specs.declared.value.Pair.{Pair}
 use Rattle.amqp_values.specs.declared.value.Value.{Value}
 use Rattle.amqp_values.specs.declared.value.Value.TheVariants as v

@@ -1,5 +1,5 @@
 -- What a binding of a headers exchange asks of headers (AMQP 0-10, "exchange", headers).
-use Rattle.std.specs.Prelude.{ℕ, ◌==◌, ◌&&◌, ◌||◌, not, Bool, true, false, if◌then◌else◌, List, [], ◌∷◌, take, bytes_eq, Option, None, Some}
+use Rattle.std.specs.Prelude.{ℕ, ◌&&◌, ◌||◌, not, Bool, true, false, if◌then◌else◌, List, [], ◌∷◌, take, bytes_eq, Option, None, Some}
 use Rattle.std.specs.List.{list_any, list_all}
 use Rattle.amqp_values.specs.declared.value.Pair.{Pair}
 use Rattle.amqp_values.specs.declared.value.Value.{Value}

@@ -1,12 +1,12 @@
 -- At the cut's first index its rows go, one after another.
-use Rattle.std.proofs.Common.{arith, ◌≡◌, ◌≤◌, ◌<◌, ◌+◌, ◌-◌, ◌∙◌, ◌++◌, ℕ, List, length, drop, refl, sym, ap, subst}
+use Rattle.std.proofs.Common.{arith, ◌≡◌, ◌+◌, ◌∙◌, ℕ, List, length, refl, sym, ap, subst}
 use Rattle.std.specs.Ordering.{on}
 use Rattle.std.specs.List.{remove}
 use Rattle.slab.specs.Slab.{get}
 use Rattle.binding_table.specs.declared.order.By.TheVariants as by
 use Rattle.binding_table.specs.declared.row.Row.{Row}
 use Rattle.binding_table.specs.Spots.{spot, order, side}
-use Rattle.binding_table.specs.Rows.{collect, before, within, behind, outside}
+use Rattle.binding_table.specs.Rows.{collect, before, within, behind}
 use Rattle.binding_table.proofs.Cuts.{cut_rises}
 use Rattle.binding_table.proofs.Sorting.{parts, shown_length}
 use Rattle.binding_table.proofs.Cutting.{take_next, more_left, all_taken, outside_is}

@@ -1,5 +1,5 @@
 -- What is before the cut and behind it is there, and what is left of the cut.
-use Rattle.std.proofs.Common.{◌≡◌, ◌≤◌, ◌++◌, drop, length}
+use Rattle.std.proofs.Common.{◌≡◌, ◌≤◌, ◌++◌, drop}
 use Rattle.std.specs.Vec.{vec_len, vec_capacity}
 use Rattle.slab.specs.Slab.{get, slab_len}
 use Rattle.binding_table.specs.declared.order.By.TheVariants as by

@@ -1,5 +1,5 @@
 -- The keys between the two points are those of the cut.
-use Rattle.std.proofs.Common.{◌≡◌, ◌∙◌, List, map, Some, sym, ap}
+use Rattle.std.proofs.Common.{◌∙◌, List, map, Some, sym, ap}
 use Rattle.std.specs.Ordering.{on}
 use Rattle.slab.specs.Slab.{get}
 use Rattle.binding_table.specs.declared.row.Row.{Row}

@@ -1,5 +1,5 @@
 -- Values of one variant are equal where their parts are, and lists where all of their parts are.
-use Rattle.std.proofs.Common.{◌≡◌, map, ◌==◌, ◌∙◌, ◌&&◌, ℕ, Bool, true, false, sym, ap, bytes_eq, refl, arith}
+use Rattle.std.proofs.Common.{map, ◌∙◌, sym, bytes_eq, arith}
 use Rattle.header_match.specs.Equality.{equal, pairwise, passes, pair_passes, equal_to, pair_test}
 use Rattle.header_match.proofs.Both.{both_fixed, both_text8, both_text16, both_bin, both_maps, both_lists, both_arrays, both_struct32, both_bare}
 use Rattle.header_match.proofs.Pairwise.{one_apart, one_next, same_code, other_code, ap2, not_key, not_value, key_and_value}

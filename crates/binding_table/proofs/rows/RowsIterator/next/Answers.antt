@@ -1,5 +1,5 @@
 -- The next row is the first of what is left.
-use Rattle.std.proofs.Common.{rules, arith, ◌≡◌, ◌∙◌, ◌∷◌, List, ℕ, map, Some, None, length, sym, ap, subst}
+use Rattle.std.proofs.Common.{rules, arith, ◌≡◌, ◌∙◌, ◌∷◌, Some, None, length, sym, ap, subst}
 use Rattle.slab.specs.Slab.{get}
 use Rattle.binding_table.specs.Rows.{collect}
 use Rattle.binding_table.proofs.Sorting.{IsShown, first_shown, none_shown, rest_shown}

@@ -1,5 +1,5 @@
 -- A row of the cut is one of the queue.
-use Rattle.std.proofs.Common.{◌≡◌, ◌∙◌, Bool, filter, not, ap}
+use Rattle.std.proofs.Common.{◌∙◌, filter, not, ap}
 use Rattle.slab.specs.Slab.{get}
 use Rattle.binding_table.specs.Rows.{Bound, collect, is_of_queue}
 use Rattle.binding_table.proofs.Crossing.{eq_parts}

@@ -1,5 +1,4 @@
 -- Without keys both orders are empty.
-use Rattle.std.proofs.Common.{sym, subst}
 use Rattle.slab.specs.Slab.{get}
 use Rattle.binding_table.proofs.Keeping.{empty_kept}
 use Rattle.binding_table.proofs.table.Bindings.new.Goals as goal

@@ -1,5 +1,5 @@
 -- A row of the cut is one with the key, and they come by queue.
-use Rattle.std.proofs.Common.{◌≡◌, ◌∙◌, List, ℕ, filter, ap}
+use Rattle.std.proofs.Common.{◌∙◌, List, ℕ, filter, ap}
 use Rattle.slab.specs.Slab.{get}
 use Rattle.binding_table.specs.Rows.{Bound, collect, has_key}
 use Rattle.binding_table.proofs.Crossing.{eq_parts, crossed}

@@ -1,10 +1,7 @@
 -- A row of the cut is one of the queue.
-use Rattle.std.proofs.Common.{◌≡◌, ◌∙◌, List, ℕ, filter, ap}
+use Rattle.std.proofs.Common.{◌∙◌, List, ℕ, filter, ap}
 use Rattle.slab.specs.Slab.{get}
-use Rattle.binding_table.specs.declared.order.By.TheVariants as by
-use Rattle.binding_table.specs.declared.order.Cut.TheVariants as cut
-use Rattle.binding_table.specs.declared.row.Row.{Row}
-use Rattle.binding_table.specs.Rows.{Bound, collect, within, is_of_queue}
+use Rattle.binding_table.specs.Rows.{Bound, collect, is_of_queue}
 use Rattle.binding_table.proofs.Crossing.{eq_parts}
 use Rattle.binding_table.proofs.Cutting.{filter_same}
 use Rattle.binding_table.proofs.table.Bindings.of_queue.Goals as goal

@@ -1,12 +1,11 @@
 -- At the cut's first index stands the row.
-use Rattle.std.proofs.Common.{arith, ◌≡◌, ◌<◌, ◌+◌, ◌∙◌, ◌∷◌, ℕ, List, [], Option, Some, length, slice_index_or, refl, sym, ap, subst}
+use Rattle.std.proofs.Common.{arith, ◌≡◌, ◌<◌, ◌+◌, ◌∙◌, ◌∷◌, ℕ, List, [], Some, length, slice_index_or, ap, subst}
 use Rattle.std.specs.Ordering.{on}
 use Rattle.slab.specs.Slab.{get}
 use Rattle.binding_table.specs.declared.order.By.TheVariants as by
 use Rattle.binding_table.specs.declared.order.Cut.TheVariants as cut
-use Rattle.binding_table.specs.declared.row.Binding.{Binding}
 use Rattle.binding_table.specs.declared.row.Row.{Row}
-use Rattle.binding_table.specs.Spots.{Spot, spot, order, queue_order}
+use Rattle.binding_table.specs.Spots.{spot, order, queue_order}
 use Rattle.binding_table.specs.Rows.{Bound, collect, before, within, first_of, find, out}
 use Rattle.binding_table.proofs.Cuts.{cut_rises, spot_apart}
 use Rattle.binding_table.proofs.Sorting.{shown_length}

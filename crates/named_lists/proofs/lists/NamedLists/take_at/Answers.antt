@@ -1,5 +1,5 @@
 -- The name's list is free.
-use Rattle.std.proofs.Common.{◌<◌, ◌++◌, ◌∷◌, [], ℕ, List, length, sym, ap, subst, arith, slice_index_or}
+use Rattle.std.proofs.Common.{◌<◌, ◌++◌, ◌∷◌, [], ℕ, List, length, sym, ap, subst, arith}
 use Rattle.std.proofs.lemmas.List.{length-append}
 use Rattle.std.specs.List.{remove}
 use Rattle.named_lists.specs.Lists.{NameLists, Parted, lists_of}
