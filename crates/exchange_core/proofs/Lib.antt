@@ -1,3 +1,4 @@
 pub mod Filtering
 pub mod Owning
 pub mod Gathering
+pub mod Unbinding

@@ -119,6 +119,13 @@ after_unbinding name exchange queue key rows entries = if ends exchange queue ke
 abbrev pub is_other : List ℕ → Rowed → Bool
 is_other queue row = not (bytes_eq row.binding.queue queue)
 
+-- it goes with its last binding, and all that it has are of a queue
+abbrev pub goes : List ℕ → List Rowed → Entry → Bool
+goes queue rows e = e.1.0.auto_delete && (not (has_none (filter (is_of_queue e.1.1 queue) rows)) && has_none (filter (is_of e.1.1) (filter (is_other queue) rows)))
+
+abbrev pub stays : List ℕ → List Rowed → Entry → Bool
+stays queue rows e = not (goes queue rows e)
+
 -- ---- all bindings
 
 abbrev pub pair_of : List ℕ → Rowed → List ℕ × Binding (Option Value)

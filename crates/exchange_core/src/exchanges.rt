@@ -1,9 +1,9 @@
 //! Exchanges by name.
-ghost use Rattle.std.specs.Prelude.{◌≡◌, ◌+◌, ◌<◌, ◌≤◌, ℕ, [], length, filter, None, Some, OnOk, OnErr, IfOk, IsSome, IsTrue, ◌↔◌};
+ghost use Rattle.std.specs.Prelude.{◌≡◌, ◌+◌, ◌<◌, ◌≤◌, ℕ, ◌&&◌, [], length, filter, None, Some, OnOk, OnErr, IfOk, IsSome, IsTrue, ◌↔◌};
 ghost use Rattle.std.specs.Option.{option_copied};
 ghost use Rattle.name_map.specs.Named.{Sorted, find, put, out};
 ghost use Rattle.binding_table.specs.Rows.{is_of};
-ghost use Rattle.exchange_core.specs.Exchanges.{marks_in, rows_in, rows_without, names_of, has_alternate, routed, counting, bound_bits, with_binding, without_binding, is_there, after_unbinding, OwnRows, is_other, first_marks, IsFirst, pairs_of};
+ghost use Rattle.exchange_core.specs.Exchanges.{marks_in, rows_in, rows_without, names_of, has_alternate, routed, counting, bound_bits, with_binding, without_binding, is_there, after_unbinding, OwnRows, is_other, stays, first_marks, IsFirst, pairs_of};
 
 use crate::iter::{ExchangeBindings, ExchangeNames};
 use crate::marks::{Binding, BoundBits, ExchangeMarks, Kind, Names};
@@ -60,7 +60,8 @@ fn unbind_all(
 )
     requires { OwnRows names.old.entries bindings.old.rows }
     ensures owns { OwnRows names.new.entries bindings.new.rows }
-    ensures others { filter (is_other queue.now) bindings.new.rows ≡ filter (is_other queue.now) bindings.old.rows }
+    ensures rows { bindings.new.rows ≡ filter (is_other queue.now) bindings.old.rows }
+    ensures entries { names.new.entries ≡ filter (stays queue.now bindings.old.rows) names.old.entries }
     ensures free { length names.old.free ≤ length names.new.free }
     ensures room { bindings.old.room ≤ bindings.new.room }
 {
@@ -71,12 +72,20 @@ fn unbind_all(
         let number = exchange.1;
         let bound = !is_empty(bindings.of_queue(number, queue));
         bindings.clear_queue(number, queue);
-        if bound && ends && is_empty(bindings.of_exchange(number)) {
+        let unused = is_empty(bindings.of_exchange(number));
+        if goes(ends, bound, unused) {
             drop(names.take_at(index));
         } else {
             index += 1;
         }
     }
+}
+
+/// Whether an exchange goes: it ends with its last binding, had one, and has none now.
+fn goes(ends: bool, bound: bool, unused: bool) -> bool
+    ensures { result ≡ (ends && (bound && unused)) }
+{
+    ends && (bound && unused)
 }
 
 /// Declares one of the exchanges that are there from the start.
@@ -362,7 +371,8 @@ impl Exchanges {
     /// Takes the bindings of a queue at all exchanges away. Exchanges that end with their last binding and lose it here end
     /// so. Takes no memory.
     pub fn unbind_queue(&mut self, queue: &Text)
-        ensures others { filter (is_other queue.now) self.new.rows ≡ filter (is_other queue.now) self.old.rows }
+        ensures rows { self.new.rows ≡ filter (is_other queue.now) self.old.rows }
+        ensures entries { self.new.entries ≡ filter (stays queue.now self.old.rows) self.old.entries }
         ensures room { self.old.room ≤ self.new.room }
         ensures spare { self.old.spare ≤ self.new.spare }
     {
