@@ -161,7 +161,7 @@ module _ {X : Type 0} (cmp : X → X → Ordering) (total : IsTotalOrder cmp) wh
     go true e h = (f x e, h)
     go false e h = h
 
-  kept_filter : (p : X → Bool) (P : X → Type 0) (xs : List X) → AllByRecursion P xs → AllByRecursion P (filter p xs)
+  pub kept_filter : (p : X → Bool) (P : X → Type 0) (xs : List X) → AllByRecursion P xs → AllByRecursion P (filter p xs)
   kept_filter p P [] h = tt
   kept_filter p P (x ∷ xs) h = go (p x) (kept_filter p P xs h.1) where
     go : (b : Bool) → AllByRecursion P (filter p xs) → AllByRecursion P (if b then x ∷ filter p xs else filter p xs)

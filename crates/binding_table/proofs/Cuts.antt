@@ -53,3 +53,7 @@ row_total b = on_total spot (order_total b)
 -- no two rows are at one spot
 pub spot_apart : {A : Type 0} (s : Spot) (a b : Row A) → queue_order (spot a) (spot b) ≡ Less → queue_order (spot a) s ≡ Equal → queue_order (spot b) s ≡ Equal → ⊥
 spot_apart s a b lt e f = true≢false (ap is_eq (sym f ∙ behind_equal queue_order (order_total by.Queue) (spot a) (spot b) s lt e))
+
+-- the order of a table
+pub queues_total : {A : Type 0} → IsTotalOrder (on (spot {A = A}) queue_order)
+queues_total = row_total by.Queue

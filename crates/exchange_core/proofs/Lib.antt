@@ -2,3 +2,4 @@ pub mod Filtering
 pub mod Owning
 pub mod Gathering
 pub mod Unbinding
+pub mod Rising

@@ -1,6 +1,9 @@
 //! Exchanges by name.
 ghost use Rattle.std.specs.Prelude.{◌≡◌, ◌+◌, ◌<◌, ◌≤◌, ℕ, ◌&&◌, [], length, filter, None, Some, OnOk, OnErr, IfOk, IsSome, IsTrue, ◌↔◌};
+ghost use Rattle.std.specs.Cmp.Lexicographic.{slice_cmp};
+ghost use Rattle.std.specs.List.Sorted.{IsStrictlySortedBy};
 ghost use Rattle.std.specs.Option.{option_copied};
+ghost use Rattle.std.specs.Ordering.{nat_cmp};
 ghost use Rattle.name_map.specs.Named.{Sorted, find, put, out};
 ghost use Rattle.binding_table.specs.Rows.{is_of};
 ghost use Rattle.exchange_core.specs.Exchanges.{marks_in, rows_in, rows_without, names_of, has_alternate, routed, counting, bound_bits, with_binding, without_binding, is_there, after_unbinding, OwnRows, is_other, stays, first_marks, IsFirst, pairs_of};
@@ -232,7 +235,17 @@ impl Exchanges {
 
     /// The queues that a message with this routing key and these application-headers goes to by an exchange's own
     /// bindings, in order, each once; none where the exchange isn't there.
-    pub fn route(
+    pub fn route(&self, exchange: &Text, key: &Text, headers: Option<&Value>) -> Result<Names, NoMemory>
+        ensures names { IfOk result (λ names. names.items ≡ routed (find exchange.now self.now.entries) key.now (option_copied headers.entry) self.now.rows) }
+        ensures sorted { IfOk result (λ names. IsStrictlySortedBy (slice_cmp nat_cmp) names.items) }
+    {
+        // What is said of the order of all bindings is what puts the names in order.
+        let _ = self.bindings.rows();
+        self.routes(exchange, key, headers)
+    }
+
+    /// The queues that a message goes to.
+    fn routes(
         &self,
         exchange: &Text,
         key: &Text,
