@@ -309,3 +309,10 @@ filter_fits p (x ∷ xs) = go (p x) (filter_fits p xs) where
 -- a point is within its list
 pub point_fits : {X : Type 0} (cmp : X → X → Ordering) (at : ℕ → Option X) (ks : List ℕ) → IsOrder cmp at ks → (p : X → Bool) (i : ℕ) → i ≡ length (filter p (collect at ks)) → i ≤ length ks
 point_fits cmp at ks o p i e = omega (arith, e, filter_fits p (collect at ks), shown_length at ks (collect at ks) o.shown)
+
+-- an element goes in between what is before it and what is behind
+pub insert_cut : {X : Type 0} (cmp : X → X → Ordering) → IsTotalOrder cmp → (r : X) (xs : List X) → IsStrictlySortedBy cmp xs → within (λ y. cmp y r) xs ≡ [] → (i : ℕ) → i ≡ length (before (λ y. cmp y r) xs) → insert xs i r ≡ before (λ y. cmp y r) xs ++ r ∷ behind (λ y. cmp y r) xs
+insert_cut {X} cmp total r xs s none i e =
+    ap (λ (n : ℕ). insert xs n r) e
+    ∙ (ap (λ (ys : List X). insert ys (length (before (λ y. cmp y r) xs)) r) (parts (λ y. cmp y r) cmp (λ a b lt. no_later cmp total r a b (ap is_le lt)) xs s ∙ ap (λ (ys : List X). before (λ y. cmp y r) xs ++ (ys ++ behind (λ y. cmp y r) xs)) none)
+    ∙ insert_front r (before (λ y. cmp y r) xs) (behind (λ y. cmp y r) xs))

@@ -235,7 +235,12 @@ impl Exchanges {
 
     /// The queues that a message with this routing key and these application-headers goes to by an exchange's own
     /// bindings, in order, each once; none where the exchange isn't there.
-    pub fn route(&self, exchange: &Text, key: &Text, headers: Option<&Value>) -> Result<Names, NoMemory>
+    pub fn route(
+        &self,
+        exchange: &Text,
+        key: &Text,
+        headers: Option<&Value>,
+    ) -> Result<Names, NoMemory>
         ensures names { IfOk result (λ names. names.items ≡ routed (find exchange.now self.now.entries) key.now (option_copied headers.entry) self.now.rows) }
         ensures sorted { IfOk result (λ names. IsStrictlySortedBy (slice_cmp nat_cmp) names.items) }
     {
