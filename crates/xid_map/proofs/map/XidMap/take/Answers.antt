@@ -1,0 +1,30 @@
+-- The first of those with the name is its entry, and the only one.
+use Rattle.std.proofs.Common.{arith, ◌≡◌, ◌<◌, ◌+◌, ◌∙◌, List, length, sym, ap, subst}
+use Rattle.std.specs.List.Sorted.{IsStrictlySortedBy}
+use Rattle.amqp_values.specs.declared.value.Xid.{Xid}
+use Rattle.binding_table.specs.Rows.{before, within}
+use Rattle.binding_table.proofs.Changing.{sorted_remove}
+use Rattle.binding_table.proofs.Cutting.{at_cut, one_taken, none_taken}
+use Rattle.xid_map.specs.Xids.{Named, by_xid, from_xid, find, out}
+use Rattle.xid_map.proofs.Ordering.{entry_total, rises, apart, found_first}
+use Rattle.xid_map.proofs.map.XidMap.take.Goals as goal
+
+pub returns-then-low-high-clause-entries : goal.returns-then-low-high-clause-entries
+returns-then-low-high-clause-entries g c =
+    subst (λ (v : Named g.row.T.Denot). v.entries ≡ out c.args.xid.now v.entries) c.self.view_is (none_taken by_xid (from_xid c.args.xid.now) (rises c.args.xid.now) c.self.inside.entries.items c.self.invariant (omega (arith, c.if-low-high.true, (subst (λ (es : List (Xid × g.row.T.Denot)). c.part-low.result.1 ≡ c.part-low.result.0 + length (within (from_xid c.args.xid.now) es)) c.as_slice.ensures.value c.part-low.ensures.within))))
+
+pub invariant_of-self : goal.invariant_of-self
+invariant_of-self g c = subst (IsStrictlySortedBy by_xid) (sym c.remove.ensures.items) (sorted_remove by_xid entry_total c.self.inside.entries.items c.part-low.result.0 c.self.invariant)
+
+pub returns-clause-entries : goal.returns-clause-entries
+returns-clause-entries g c =
+    let some : 0 < length (within (from_xid c.args.xid.now) c.self.inside.entries.items) = omega (arith, c.if-low-high.false, (subst (λ (es : List (Xid × g.row.T.Denot)). c.part-low.result.1 ≡ c.part-low.result.0 + length (within (from_xid c.args.xid.now) es)) c.as_slice.ensures.value c.part-low.ensures.within)) in
+    c.remove.ensures.items
+    ∙ (one_taken by_xid (from_xid c.args.xid.now) (apart c.args.xid.now) (rises c.args.xid.now) c.self.inside.entries.items c.self.invariant c.part-low.result.0 (subst (λ (es : List (Xid × g.row.T.Denot)). c.part-low.result.0 ≡ length (before (from_xid c.args.xid.now) es)) c.as_slice.ensures.value c.part-low.ensures.before) some
+    ∙ ap (λ (v : Named g.row.T.Denot). out c.args.xid.now v.entries) c.self.view_is)
+
+pub returns-clause-some : goal.returns-clause-some
+returns-clause-some g c =
+    let some : 0 < length (within (from_xid c.args.xid.now) c.self.inside.entries.items) = omega (arith, c.if-low-high.false, (subst (λ (es : List (Xid × g.row.T.Denot)). c.part-low.result.1 ≡ c.part-low.result.0 + length (within (from_xid c.args.xid.now) es)) c.as_slice.ensures.value c.part-low.ensures.within)) in
+    sym (found_first c.args.xid.now c.self.inside.entries.items c.remove.result some (at_cut by_xid (from_xid c.args.xid.now) (rises c.args.xid.now) c.self.inside.entries.items c.self.invariant c.part-low.result.0 (subst (λ (es : List (Xid × g.row.T.Denot)). c.part-low.result.0 ≡ length (before (from_xid c.args.xid.now) es)) c.as_slice.ensures.value c.part-low.ensures.before) some c.remove.result c.remove.ensures.value)
+    ∙ ap (λ (v : Named g.row.T.Denot). find c.args.xid.now v.entries) c.self.view_is)
