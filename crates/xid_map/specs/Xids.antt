@@ -1,5 +1,5 @@
 -- Names of branches in order, with what they stand for.
-use Rattle.std.specs.Prelude.{ℕ, List, [], ◌∷◌, ◌++◌, Option, None, Some, refl}
+use Rattle.std.specs.Prelude.{ℕ, zero, suc, List, [], ◌∷◌, ◌++◌, Option, None, Some, refl}
 use Rattle.std.specs.Coded.{Coded, code_by, coded×, coded_ℕ, coded_list}
 use Rattle.std.specs.Cmp.Lexicographic.{slice_cmp}
 use Rattle.std.specs.Ordering.{nat_cmp, then_cmp}
@@ -55,3 +55,15 @@ module _ {T : Type 0} where
   -- without a name
   abbrev pub out : Xid → List (Xid × T) → List (Xid × T)
   out xid es = outside (from_xid xid) es
+
+  -- what the name at an index stands for
+  abbrev pub value_at : List (Xid × T) → ℕ → Option T
+  value_at [] index = None
+  value_at (e ∷ es) zero = Some e.1
+  value_at (e ∷ es) (suc index) = value_at es index
+
+  -- where the name at an index stands for another value
+  abbrev pub with_value : List (Xid × T) → ℕ → T → List (Xid × T)
+  with_value [] index value = []
+  with_value (e ∷ es) zero value = (e.0, value) ∷ es
+  with_value (e ∷ es) (suc index) value = e ∷ with_value es index value

@@ -4,7 +4,7 @@ ghost use Rattle.std.specs.List.Sorted.{IsStrictlySortedBy};
 ghost use Rattle.std.specs.Option.{option_copied};
 ghost use Rattle.std.specs.Ordering.{is_lt, is_le};
 ghost use Rattle.binding_table.specs.Rows.{before, within};
-ghost use Rattle.xid_map.specs.Xids.{xid_order, Named, by_xid, from_xid, find, put, out};
+ghost use Rattle.xid_map.specs.Xids.{xid_order, Named, by_xid, from_xid, find, put, out, value_at};
 
 use amqp_values::Xid;
 use octet_reading::NoMemory;
@@ -94,7 +94,8 @@ impl<T> XidMap<T> {
 
     /// The index of a name, counted from 0. Takes no memory.
     pub fn index_of(&self, xid: &Xid) -> Option<usize>
-        ensures some { IfSome result (λ i. (i < length self.now.entries) × (i ≡ length (before (from_xid xid.now) self.now.entries))) }
+        ensures index { IfSome result (λ i. i ≡ length (before (from_xid xid.now) self.now.entries)) }
+        ensures some { IfSome result (λ i. (i < length self.now.entries) × (value_at self.now.entries i ≡ find xid.now self.now.entries)) }
         ensures none { IfNone result (find xid.now self.now.entries ≡ None) }
     {
         let (low, high) = part(self.entries.as_slice(), xid);
@@ -115,6 +116,18 @@ impl<T> XidMap<T> {
         None
     }
 
+    ghost use Rattle.std.specs.Borrow.{sem};
+    ghost use Rattle.xid_map.specs.Lending.{lends_value};
+
+    /// What the name at an index stands for, for writing. Takes no memory.
+    pub fn value_mut(&mut self, index: usize) -> &mut T
+        requires { index < length self.old.entries }
+        ensures* writes_back { sem 𝓛 (lends_value T.row self.entry index result) }
+        ensures value { value_at self.old.entries index ≡ Some result.now }
+    {
+        &mut self.entries[index].1
+    }
+
     /// Puts a name in that isn't there. Takes no memory.
     pub fn put(&mut self, xid: Xid, value: T)
         requires new { find xid self.old.entries ≡ None }
@@ -132,8 +145,9 @@ impl<T> XidMap<T> {
     /// Takes a name out; none where it isn't there. Takes no memory.
     pub fn take(&mut self, xid: &Xid) -> Option<(Xid, T)>
         ensures entries { self.new.entries ≡ out xid.now self.old.entries }
-        ensures some { IfSome result (λ entry. find xid.now self.old.entries ≡ Some entry.1) }
+        ensures some { IfSome result (λ entry. (entry.0 ≡ xid.now) × (find xid.now self.old.entries ≡ Some entry.1)) }
         ensures none { IfNone result (find xid.now self.old.entries ≡ None) }
+        ensures gone { find xid.now self.new.entries ≡ None }
         ensures room { self.old.room ≤ self.new.room }
     {
         let (low, high) = part(self.entries.as_slice(), xid);

@@ -79,3 +79,16 @@ fn a_name_taken_out_is_gone(rt: HostRuntime) -> Result<(), Fail> {
     assert_eq!(rt; digits(&map), 4512);
     Ok(())
 }
+
+#[test]
+fn what_a_name_stands_for_changes_alone(rt: HostRuntime) -> Result<(), Fail> {
+    let alloc = rt.alloc();
+    let mut map = XidMap::new(alloc);
+    assert!(rt; filled(&mut map, alloc)?);
+    assert_eq!(rt; map.entries().len(), 5);
+    if map.entries().len() == 5 {
+        *map.value_mut(2) = 9;
+    }
+    assert_eq!(rt; digits(&map), 45912);
+    Ok(())
+}

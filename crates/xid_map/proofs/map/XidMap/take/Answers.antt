@@ -7,6 +7,7 @@ use Rattle.binding_table.proofs.Changing.{sorted_remove}
 use Rattle.binding_table.proofs.Cutting.{at_cut, one_taken, none_taken}
 use Rattle.xid_map.specs.Xids.{Named, by_xid, from_xid, find, out}
 use Rattle.xid_map.proofs.Ordering.{entry_total, rises, apart, found_first}
+use Rattle.xid_map.proofs.Naming.{named_so, gone}
 use Rattle.xid_map.proofs.map.XidMap.take.Goals as goal
 
 pub returns-then-low-high-clause-entries : goal.returns-then-low-high-clause-entries
@@ -26,5 +27,10 @@ returns-clause-entries g c =
 pub returns-clause-some : goal.returns-clause-some
 returns-clause-some g c =
     let some : 0 < length (within (from_xid c.args.xid.now) c.self.inside.entries.items) = omega (arith, c.if-low-high.false, (subst (λ (es : List (Xid × g.row.T.Denot)). c.part-low.result.1 ≡ c.part-low.result.0 + length (within (from_xid c.args.xid.now) es)) c.as_slice.ensures.value c.part-low.ensures.within)) in
-    sym (found_first c.args.xid.now c.self.inside.entries.items c.remove.result some (at_cut by_xid (from_xid c.args.xid.now) (rises c.args.xid.now) c.self.inside.entries.items c.self.invariant c.part-low.result.0 (subst (λ (es : List (Xid × g.row.T.Denot)). c.part-low.result.0 ≡ length (before (from_xid c.args.xid.now) es)) c.as_slice.ensures.value c.part-low.ensures.before) some c.remove.result c.remove.ensures.value)
-    ∙ ap (λ (v : Named g.row.T.Denot). find c.args.xid.now v.entries) c.self.view_is)
+    let first = at_cut by_xid (from_xid c.args.xid.now) (rises c.args.xid.now) c.self.inside.entries.items c.self.invariant c.part-low.result.0 (subst (λ (es : List (Xid × g.row.T.Denot)). c.part-low.result.0 ≡ length (before (from_xid c.args.xid.now) es)) c.as_slice.ensures.value c.part-low.ensures.before) some c.remove.result c.remove.ensures.value in (
+      named_so c.args.xid.now c.self.inside.entries.items c.remove.result some first,
+      sym (found_first c.args.xid.now c.self.inside.entries.items c.remove.result some first ∙ ap (λ (v : Named g.row.T.Denot). find c.args.xid.now v.entries) c.self.view_is),
+    )
+
+pub returns-clause-gone : goal.returns-clause-gone
+returns-clause-gone g c = ap (find c.args.xid.now) (returns-clause-entries g c) ∙ gone c.args.xid.now c.args.self.now.entries
