@@ -10,14 +10,15 @@ use Rattle.std.specs.declared.cmp.Ordering.{Ordering}
 use Rattle.std.specs.declared.cmp.Ordering.TheVariants.{Less, Equal, Greater}
 use Rattle.std.specs.List.{AllByRecursion}
 use Rattle.std.specs.List.Sorted.{IsStrictlySortedBy}
-use Rattle.named_lists.specs.Lists.{times}
+use Rattle.sorted_map.specs.Cuts.{times}
 use Rattle.binding_table.specs.declared.order.By.TheVariants as by
 use Rattle.binding_table.specs.declared.row.Row.{Row}
 use Rattle.binding_table.specs.Spots.{spot, order}
-use Rattle.binding_table.specs.Rows.{collect, Kept, has_key}
+use Rattle.sorted_map.specs.Cuts.{collect}
+use Rattle.binding_table.specs.Rows.{Kept, has_key}
 use Rattle.binding_table.proofs.Cuts.{row_total}
-use Rattle.binding_table.proofs.Sorting.{shown_head, shown_tail, shown_at, shown_length, collected}
-use Rattle.binding_table.proofs.Changing.{as_one, one_if, other_if, place_of, all_at, all_filter, sorted_filter, same_equal}
+use Rattle.sorted_map.proofs.Sorting.{shown_head, shown_tail, shown_at, shown_length, collected}
+use Rattle.sorted_map.proofs.Changing.{as_one, one_if, other_if, place_of, all_at, all_filter, sorted_filter, same_equal}
 
 module _ {X : Type 0} (test : X → Bool) where
   abbrev slot_test : Option X → Bool

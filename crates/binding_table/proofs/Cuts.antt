@@ -12,8 +12,8 @@ use Rattle.binding_table.specs.declared.order.Cut.{Cut}
 use Rattle.binding_table.specs.declared.order.Cut.TheVariants as cut
 use Rattle.binding_table.specs.declared.row.Row.{Row}
 use Rattle.binding_table.specs.Spots.{Spot, spot, on_exchange, on_queue, on_key, queue_order, key_order, order, side}
-use Rattle.binding_table.proofs.Sorting.{Rises, no_later}
-use Rattle.binding_table.proofs.Changing.{behind_equal}
+use Rattle.sorted_map.proofs.Sorting.{Rises, no_later}
+use Rattle.sorted_map.proofs.Changing.{behind_equal}
 
 less_le : (o : Ordering) → o ≡ Less → is_le o ≡ true
 less_le o e = ap is_le e

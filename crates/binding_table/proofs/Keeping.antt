@@ -7,14 +7,15 @@ use Rattle.std.specs.declared.cmp.Ordering.{Ordering}
 use Rattle.std.specs.declared.cmp.Ordering.TheVariants.{Less, Equal, Greater}
 use Rattle.std.specs.List.{insert, remove}
 use Rattle.std.specs.List.Sorted.{IsStrictlySortedBy}
-use Rattle.named_lists.specs.Lists.{times}
+use Rattle.sorted_map.specs.Cuts.{times}
 use Rattle.binding_table.specs.declared.order.By.TheVariants as by
 use Rattle.binding_table.specs.declared.row.Row.{Row}
 use Rattle.binding_table.specs.Spots.{spot, order}
-use Rattle.binding_table.specs.Rows.{collect, before, within, behind, Kept}
+use Rattle.sorted_map.specs.Cuts.{collect, before, within, behind}
+use Rattle.binding_table.specs.Rows.{Kept}
 use Rattle.binding_table.proofs.Cuts.{row_total}
-use Rattle.binding_table.proofs.Changing.{less_order, less_alike, more_order, key_index, counted, index_is, place_of, found_is, none_at, none_within, times_insert}
-use Rattle.binding_table.proofs.Sorting.{shown_length, shown_at}
+use Rattle.sorted_map.proofs.Changing.{less_order, less_alike, more_order, key_index, counted, index_is, place_of, found_is, none_at, none_within, times_insert}
+use Rattle.sorted_map.proofs.Sorting.{shown_length, shown_at}
 
 none_kept : {A : Type 0} (at : ℕ → Option (Row A)) → Kept at [] []
 unfolding IsStrictlySortedBy

@@ -6,45 +6,11 @@ use Rattle.std.specs.declared.cmp.Ordering.TheVariants.{Less}
 use Rattle.std.specs.List.Sorted.{IsStrictlySortedBy}
 use Rattle.std.specs.Ordering.{on}
 use Rattle.std.specs.Coded.{Coded, code_by, coded×, coded_ℕ, coded_list}
-use Rattle.named_lists.specs.Lists.{times}
+use Rattle.sorted_map.specs.Cuts.{before, within, behind, outside, IsOrder, times}
 use Rattle.binding_table.specs.declared.order.By.TheVariants as by
 use Rattle.binding_table.specs.declared.row.Binding.{Binding}
 use Rattle.binding_table.specs.declared.row.Row.{Row}
 use Rattle.binding_table.specs.Spots.{Spot, spot, order, queue_order}
-
-abbrev pub push : {X : Type 0} → Option X → List X → List X
-push None xs = xs
-push (Some x) xs = x ∷ xs
-
--- what stands under keys, in order
-abbrev pub collect : {X : Type 0} → (ℕ → Option X) → List ℕ → List X
-collect at [] = []
-collect at (k ∷ ks) = push (at k) (collect at ks)
-
-module _ {X : Type 0} (side : X → Ordering) where
-  -- those before a cut, in it, and behind it
-  abbrev pub before : List X → List X
-  before xs = filter (λ x. is_lt (side x)) xs
-
-  abbrev pub within : List X → List X
-  within xs = filter (λ x. is_eq (side x)) xs
-
-  abbrev pub behind : List X → List X
-  behind xs = filter (λ x. is_gt (side x)) xs
-
-  -- all but those in it
-  abbrev pub outside : List X → List X
-  outside xs = filter (λ x. not (is_eq (side x))) xs
-
--- the side of what stands under a key; what is missing comes before
-abbrev pub slot_side : {X : Type 0} → (X → Ordering) → Option X → Ordering
-slot_side side None = Less
-slot_side side (Some x) = side x
-
--- something stands under each key, in this order
-pub record IsOrder {X : Type 0} (cmp : X → X → Ordering) (at : ℕ → Option X) (ks : List ℕ) : Type 0 where
-  pub shown : map at ks ≡ map Some (collect at ks)
-  pub sorted : IsStrictlySortedBy cmp (collect at ks)
 
 -- the same keys in both orders
 pub record Kept {A : Type 0} (at : ℕ → Option (Row A)) (ks ls : List ℕ) : Type 0 where

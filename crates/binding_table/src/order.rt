@@ -5,7 +5,7 @@ ghost use Rattle.std.specs.Ordering.{on};
 ghost use Rattle.slab.specs.Slab.{get};
 ghost use Rattle.binding_table.specs.Spots.{spot, order, first_of, second_of, side};
 ghost use Rattle.binding_table.specs.declared.row.Row.{Row};
-ghost use Rattle.binding_table.specs.Rows.{collect, before, within, slot_side, IsOrder};
+ghost use Rattle.sorted_map.specs.Cuts.{collect, before, within, slot_side, IsOrder};
 
 use crate::row::Row;
 use octet_reading::Text;

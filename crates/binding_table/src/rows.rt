@@ -3,7 +3,7 @@ ghost use Rattle.std.specs.Prelude.{◌≡◌, map, Some};
 ghost use Rattle.std.specs.Iterator.{YieldsFirstRef, item_count};
 ghost use Rattle.slab.specs.Slab.{get};
 ghost use Rattle.binding_table.specs.declared.row.Row.{Row};
-ghost use Rattle.binding_table.specs.Rows.{collect};
+ghost use Rattle.sorted_map.specs.Cuts.{collect};
 
 use crate::row::Row;
 use slab::Slab;
@@ -21,7 +21,8 @@ impl<'a, A> Model for Rows<'a, A> {
     ghost use Rattle.std.specs.Coded.{coded_list};
     ghost use Rattle.slab.specs.Slab.{get};
     ghost use Rattle.binding_table.specs.declared.row.Row.{Row};
-    ghost use Rattle.binding_table.specs.Rows.{collect, row_code};
+    ghost use Rattle.sorted_map.specs.Cuts.{collect};
+    ghost use Rattle.binding_table.specs.Rows.{row_code};
 
     ghost Value = { List (Row A) };
 

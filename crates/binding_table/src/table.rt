@@ -9,7 +9,8 @@ ghost use Rattle.slab.specs.Slab.{get, slab_len, HasRoomFor};
 ghost use Rattle.binding_table.specs.declared.order.By.TheVariants as by;
 ghost use Rattle.binding_table.specs.declared.row.Row.{Row};
 ghost use Rattle.binding_table.specs.Spots.{spot, order, queue_order, side};
-ghost use Rattle.binding_table.specs.Rows.{collect, within, outside, Kept, IsOrder, find, at, put, out, is_of, is_of_queue, has_key};
+ghost use Rattle.sorted_map.specs.Cuts.{collect, within, outside, IsOrder};
+ghost use Rattle.binding_table.specs.Rows.{Kept, find, at, put, out, is_of, is_of_queue, has_key};
 
 use crate::order::{By, Cut, part};
 use crate::row::{Binding, Row};
@@ -35,7 +36,8 @@ impl<A> Model for Bindings<A> {
     ghost use Rattle.std.specs.Prelude.{◌-◌, min};
     ghost use Rattle.std.specs.Vec.{vec_len, vec_capacity};
     ghost use Rattle.slab.specs.Slab.{get, slab_len};
-    ghost use Rattle.binding_table.specs.Rows.{Bound, Kept, bound_code, collect};
+    ghost use Rattle.sorted_map.specs.Cuts.{collect};
+    ghost use Rattle.binding_table.specs.Rows.{Bound, Kept, bound_code};
 
     ghost Value = { Bound A };
 

@@ -6,7 +6,7 @@ use Rattle.amqp_values.specs.declared.value.Value.{Value}
 use Rattle.exchange_core.specs.declared.marks.Kind.{Kind}
 use Rattle.exchange_core.specs.declared.marks.Kind.TheVariants as kinds
 use Rattle.binding_table.specs.Rows.{is_of, has_key}
-use Rattle.binding_table.proofs.Cutting.{filter_same}
+use Rattle.sorted_map.proofs.Cutting.{filter_same}
 use Rattle.exchange_core.proofs.Filtering.{filter_both}
 use Rattle.exchange_core.specs.Routes.{Rowed, takes, is_same, last_of, others}
 

@@ -8,13 +8,14 @@ use Rattle.name_map.specs.Named as named
 use Rattle.named_lists.specs.Lists.{lists_of, times}
 use Rattle.named_lists.proofs.Parting.{one_if, times_put, times_out, times_remove}
 use Rattle.binding_table.specs.Spots.{Spot, spot}
-use Rattle.binding_table.specs.Rows.{is_of, is_of_queue, put, before, behind, from_spot}
+use Rattle.sorted_map.specs.Cuts.{before, behind}
+use Rattle.binding_table.specs.Rows.{is_of, is_of_queue, put, from_spot}
 use Rattle.binding_table.specs.Rows as table
 use Rattle.exchange_core.specs.declared.marks.ExchangeMarks.{ExchangeMarks}
 use Rattle.exchange_core.specs.Routes.{Rowed, has_none}
 use Rattle.exchange_core.specs.Exchanges.{Entry, OwnRows, is_other}
 use Rattle.exchange_core.proofs.Filtering.{filter_still, filter_none, filter_both}
-use Rattle.binding_table.proofs.Cutting.{filter_same}
+use Rattle.sorted_map.proofs.Cutting.{filter_same}
 
 pub put_owns : (entries : List Entry) (rows : List Rowed) → OwnRows entries rows → (name : List ℕ) (x : ExchangeMarks × ℕ) → OwnRows (named.put name x entries) rows
 put_owns entries rows o name x n z = o n (omega (arith, z, times_put n name x entries))

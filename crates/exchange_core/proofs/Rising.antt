@@ -13,7 +13,7 @@ use Rattle.amqp_values.specs.declared.value.Value.{Value}
 use Rattle.binding_table.specs.Spots.{spot, queue_order}
 use Rattle.binding_table.specs.Rows.{is_of}
 use Rattle.binding_table.proofs.Cuts.{queues_total}
-use Rattle.binding_table.proofs.Changing.{sorted_filter, all_filter, kept_filter, same_equal}
+use Rattle.sorted_map.proofs.Changing.{sorted_filter, all_filter, kept_filter, same_equal}
 use Rattle.exchange_core.specs.declared.marks.ExchangeMarks.{ExchangeMarks}
 use Rattle.exchange_core.specs.declared.marks.Kind.{Kind}
 use Rattle.exchange_core.specs.Routes.{Rowed, takes, is_same, others, queues_of}

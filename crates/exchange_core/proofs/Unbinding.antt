@@ -9,7 +9,7 @@ use Rattle.binding_table.specs.Rows.{is_of, is_of_queue}
 use Rattle.exchange_core.specs.Routes.{Rowed, has_none}
 use Rattle.exchange_core.specs.Exchanges.{Entry, OwnRows, is_other, goes}
 use Rattle.exchange_core.proofs.Filtering.{filter_still, filter_both}
-use Rattle.binding_table.proofs.Cutting.{filter_same}
+use Rattle.sorted_map.proofs.Cutting.{filter_same}
 
 module _ {X : Type 0} where
   pub all_next : (P : X → Type 0) (xs : List X) (i : ℕ) (d : X) → i < length xs → AllByRecursion P (take i xs) → P (slice_index_or xs i d) → AllByRecursion P (take (suc i) xs)

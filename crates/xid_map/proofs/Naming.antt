@@ -10,8 +10,8 @@ use Rattle.std.specs.declared.cmp.Ordering.TheVariants.{Less, Equal, Greater}
 use Rattle.std.specs.List.{AllByRecursion}
 use Rattle.std.specs.List.Sorted.{IsStrictlySortedBy}
 use Rattle.amqp_values.specs.declared.value.Xid.{Xid}
-use Rattle.binding_table.specs.Rows.{before, within, behind}
-use Rattle.binding_table.proofs.Sorting.{parts}
+use Rattle.sorted_map.specs.Cuts.{before, within, behind}
+use Rattle.sorted_map.proofs.Sorting.{parts}
 use Rattle.xid_map.specs.Xids.{xid_order, by_xid, from_xid, find, out, value_at, with_value}
 use Rattle.xid_map.proofs.Ordering.{rises}
 

@@ -9,9 +9,9 @@ use Rattle.std.specs.declared.cmp.Ordering.{Ordering}
 use Rattle.std.specs.declared.cmp.Ordering.TheVariants.{Less, Equal, Greater}
 use Rattle.std.specs.List.Sorted.{IsStrictlySortedBy, IsPartitionedBy, IsPartitionPoint}
 use Rattle.amqp_values.specs.declared.value.Xid.{Xid}
-use Rattle.binding_table.specs.Rows.{before, within}
-use Rattle.binding_table.proofs.Sorting.{Rises, no_later, point_is, upto}
-use Rattle.binding_table.proofs.Changing.{behind_equal}
+use Rattle.sorted_map.specs.Cuts.{before, within}
+use Rattle.sorted_map.proofs.Sorting.{Rises, no_later, point_is, upto}
+use Rattle.sorted_map.proofs.Changing.{behind_equal}
 use Rattle.xid_map.specs.Xids.{xid_order, by_xid, from_xid, find}
 
 xid_total : IsTotalOrder xid_order

@@ -5,7 +5,7 @@ use Rattle.std.specs.Cmp.Lexicographic.{slice_cmp}
 use Rattle.std.specs.Ordering.{nat_cmp, then_cmp}
 use Rattle.std.specs.declared.cmp.Ordering.{Ordering}
 use Rattle.amqp_values.specs.declared.value.Xid.{Xid}
-use Rattle.binding_table.specs.Rows.{before, within, behind, outside}
+use Rattle.sorted_map.specs.Cuts.{before, within, behind, outside}
 
 abbrev pub on_format : Xid → Xid → Ordering
 on_format a b = nat_cmp a.format b.format

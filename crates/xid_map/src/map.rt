@@ -3,7 +3,7 @@ ghost use Rattle.std.specs.Prelude.{◌≡◌, ◌+◌, ◌<◌, ◌≤◌, [], 
 ghost use Rattle.std.specs.List.Sorted.{IsStrictlySortedBy};
 ghost use Rattle.std.specs.Option.{option_copied};
 ghost use Rattle.std.specs.Ordering.{is_lt, is_le};
-ghost use Rattle.binding_table.specs.Rows.{before, within};
+ghost use Rattle.sorted_map.specs.Cuts.{before, within};
 ghost use Rattle.xid_map.specs.Xids.{xid_order, Named, by_xid, from_xid, find, put, out, value_at};
 
 use amqp_values::Xid;

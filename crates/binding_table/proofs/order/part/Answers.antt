@@ -4,10 +4,10 @@ use Rattle.std.proofs.lemmas.Fn.{always_returns_same}
 use Rattle.std.specs.Ordering.{is_lt, is_le, on}
 use Rattle.slab.specs.Slab.{get}
 use Rattle.binding_table.specs.Spots.{spot, order, side}
-use Rattle.binding_table.specs.Rows.{slot_side, collect, within}
+use Rattle.sorted_map.specs.Cuts.{slot_side, collect, within}
 use Rattle.binding_table.specs.declared.row.Row.{Row}
 use Rattle.binding_table.proofs.Cuts.{cut_rises}
-use Rattle.binding_table.proofs.Sorting.{low_is, high_is}
+use Rattle.sorted_map.proofs.Sorting.{low_is, high_is}
 use Rattle.binding_table.proofs.order.part.Goals as goal
 
 pub returns-clause-before : goal.returns-clause-before

@@ -6,10 +6,10 @@ use Rattle.slab.specs.Slab.{get}
 use Rattle.binding_table.specs.declared.order.By.TheVariants as by
 use Rattle.binding_table.specs.declared.row.Row.{Row}
 use Rattle.binding_table.specs.Spots.{spot, order, side}
-use Rattle.binding_table.specs.Rows.{collect, before, within, behind}
+use Rattle.sorted_map.specs.Cuts.{collect, before, within, behind}
 use Rattle.binding_table.proofs.Cuts.{cut_rises}
-use Rattle.binding_table.proofs.Sorting.{parts, shown_length}
-use Rattle.binding_table.proofs.Cutting.{take_next, more_left, all_taken, outside_is}
+use Rattle.sorted_map.proofs.Sorting.{parts, shown_length}
+use Rattle.sorted_map.proofs.Cutting.{take_next, more_left, all_taken, outside_is}
 use Rattle.binding_table.proofs.table.clear_cut.Goals as goal
 
 pub loop-taken-init : goal.loop-taken-init

@@ -5,7 +5,8 @@ use Rattle.slab.specs.Slab.{get, slab_len}
 use Rattle.binding_table.specs.declared.order.By.TheVariants as by
 use Rattle.binding_table.specs.declared.row.Row.{Row}
 use Rattle.binding_table.specs.Spots.{spot, side}
-use Rattle.binding_table.specs.Rows.{collect, before, within, behind, Kept}
+use Rattle.sorted_map.specs.Cuts.{collect, before, within, behind}
+use Rattle.binding_table.specs.Rows.{Kept}
 use Rattle.binding_table.proofs.table.clear_cut.Given as goal
 
 abbrev pub invariant-loop-taken : goal.invariant-loop-taken

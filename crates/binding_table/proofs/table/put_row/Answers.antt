@@ -6,8 +6,9 @@ use Rattle.slab.specs.Slab.{get}
 use Rattle.binding_table.specs.declared.row.Row.{Row}
 use Rattle.binding_table.specs.declared.order.By.TheVariants as by
 use Rattle.binding_table.specs.Spots.{spot, order}
-use Rattle.binding_table.specs.Rows.{collect, Kept, before}
-use Rattle.binding_table.proofs.Changing.{point_fits}
+use Rattle.sorted_map.specs.Cuts.{collect, before}
+use Rattle.binding_table.specs.Rows.{Kept}
+use Rattle.sorted_map.proofs.Changing.{point_fits}
 use Rattle.binding_table.proofs.Keeping.{more_kept}
 use Rattle.binding_table.proofs.table.put_row.Goals as goal
 

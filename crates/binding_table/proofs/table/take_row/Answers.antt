@@ -6,8 +6,9 @@ use Rattle.slab.specs.Slab.{get}
 use Rattle.binding_table.specs.declared.row.Row.{Row}
 use Rattle.binding_table.specs.declared.order.By.TheVariants as by
 use Rattle.binding_table.specs.Spots.{spot, order}
-use Rattle.binding_table.specs.Rows.{collect, Kept, before}
-use Rattle.binding_table.proofs.Changing.{found_is, not_none}
+use Rattle.sorted_map.specs.Cuts.{collect, before}
+use Rattle.binding_table.specs.Rows.{Kept}
+use Rattle.sorted_map.proofs.Changing.{found_is, not_none}
 use Rattle.binding_table.proofs.Keeping.{other_index, less_kept}
 use Rattle.binding_table.proofs.table.take_row.Goals as goal
 

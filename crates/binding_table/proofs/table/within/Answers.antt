@@ -5,7 +5,7 @@ use Rattle.slab.specs.Slab.{get}
 use Rattle.binding_table.specs.declared.row.Row.{Row}
 use Rattle.binding_table.specs.Spots.{spot, order, side}
 use Rattle.binding_table.proofs.Cuts.{cut_rises}
-use Rattle.binding_table.proofs.Cutting.{cut_shown, cut_collected}
+use Rattle.sorted_map.proofs.Cutting.{cut_shown, cut_collected}
 use Rattle.binding_table.proofs.table.within.Goals as goal
 
 pub new-requires : goal.new-requires

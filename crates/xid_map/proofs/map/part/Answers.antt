@@ -2,7 +2,7 @@
 use Rattle.std.proofs.Common.{rules, of_calls, ℕ, ◌+◌, length, ap, sym, ◌∙◌}
 use Rattle.std.proofs.lemmas.Fn.{always_returns_same}
 use Rattle.std.specs.Ordering.{is_lt, is_le}
-use Rattle.binding_table.specs.Rows.{within}
+use Rattle.sorted_map.specs.Cuts.{within}
 use Rattle.xid_map.specs.Xids.{from_xid}
 use Rattle.xid_map.proofs.Ordering.{low_is, high_is}
 use Rattle.xid_map.proofs.map.part.Goals as goal

@@ -1,8 +1,8 @@
 -- The next row is the first of what is left.
 use Rattle.std.proofs.Common.{rules, arith, ◌≡◌, ◌∙◌, ◌∷◌, Some, None, length, sym, ap, subst}
 use Rattle.slab.specs.Slab.{get}
-use Rattle.binding_table.specs.Rows.{collect}
-use Rattle.binding_table.proofs.Sorting.{IsShown, first_shown, none_shown, rest_shown}
+use Rattle.sorted_map.specs.Cuts.{collect}
+use Rattle.sorted_map.proofs.Sorting.{IsShown, first_shown, none_shown, rest_shown}
 use Rattle.binding_table.proofs.rows.RowsIterator.next.Goals as goal
 
 pub unreachable-requires : goal.unreachable-requires

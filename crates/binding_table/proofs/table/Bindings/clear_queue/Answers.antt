@@ -1,9 +1,10 @@
 -- A row of the cut is one of the queue.
 use Rattle.std.proofs.Common.{◌∙◌, filter, not, ap}
 use Rattle.slab.specs.Slab.{get}
-use Rattle.binding_table.specs.Rows.{Bound, collect, is_of_queue}
+use Rattle.sorted_map.specs.Cuts.{collect}
+use Rattle.binding_table.specs.Rows.{Bound, is_of_queue}
 use Rattle.binding_table.proofs.Crossing.{eq_parts}
-use Rattle.binding_table.proofs.Cutting.{filter_same}
+use Rattle.sorted_map.proofs.Cutting.{filter_same}
 use Rattle.binding_table.proofs.table.Bindings.clear_queue.Goals as goal
 
 pub returns-clause-rows : goal.returns-clause-rows

@@ -1,9 +1,10 @@
 -- A row of the cut is one with the key, and they come by queue.
 use Rattle.std.proofs.Common.{◌∙◌, List, ℕ, filter, ap}
 use Rattle.slab.specs.Slab.{get}
-use Rattle.binding_table.specs.Rows.{Bound, collect, has_key}
+use Rattle.sorted_map.specs.Cuts.{collect}
+use Rattle.binding_table.specs.Rows.{Bound, has_key}
 use Rattle.binding_table.proofs.Crossing.{eq_parts, crossed}
-use Rattle.binding_table.proofs.Cutting.{filter_same}
+use Rattle.sorted_map.proofs.Cutting.{filter_same}
 use Rattle.binding_table.proofs.table.Bindings.of_key.Goals as goal
 
 pub returns : goal.returns

@@ -6,10 +6,11 @@ use Rattle.binding_table.specs.declared.order.By.TheVariants as by
 use Rattle.binding_table.specs.declared.order.Cut.TheVariants as cut
 use Rattle.binding_table.specs.declared.row.Row.{Row}
 use Rattle.binding_table.specs.Spots.{spot, order, queue_order}
-use Rattle.binding_table.specs.Rows.{Bound, collect, before, within, first_of, find, out}
+use Rattle.sorted_map.specs.Cuts.{collect, before, within}
+use Rattle.binding_table.specs.Rows.{Bound, first_of, find, out}
 use Rattle.binding_table.proofs.Cuts.{cut_rises, spot_apart}
-use Rattle.binding_table.proofs.Sorting.{shown_length}
-use Rattle.binding_table.proofs.Cutting.{one_taken, none_taken, at_cut, cut_bound}
+use Rattle.sorted_map.proofs.Sorting.{shown_length}
+use Rattle.sorted_map.proofs.Cutting.{one_taken, none_taken, at_cut, cut_bound}
 use Rattle.binding_table.proofs.table.Bindings.take.Goals as goal
 
 pub returns-then-low-high-clause-rows : goal.returns-then-low-high-clause-rows

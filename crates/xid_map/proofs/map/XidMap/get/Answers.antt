@@ -1,8 +1,8 @@
 -- The first of those with the name is its entry.
 use Rattle.std.proofs.Common.{arith, ◌≡◌, ◌<◌, ◌+◌, ◌∙◌, List, length, ap, subst}
 use Rattle.amqp_values.specs.declared.value.Xid.{Xid}
-use Rattle.binding_table.specs.Rows.{before, within}
-use Rattle.binding_table.proofs.Cutting.{at_cut}
+use Rattle.sorted_map.specs.Cuts.{before, within}
+use Rattle.sorted_map.proofs.Cutting.{at_cut}
 use Rattle.xid_map.specs.Xids.{Named, by_xid, from_xid, find}
 use Rattle.xid_map.proofs.Ordering.{rises, found_first}
 use Rattle.xid_map.proofs.map.XidMap.get.Goals as goal

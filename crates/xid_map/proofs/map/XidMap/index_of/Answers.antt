@@ -1,7 +1,7 @@
 -- The name stands behind those before it.
 use Rattle.std.proofs.Common.{arith, ◌≡◌, ◌<◌, ◌+◌, ◌∙◌, List, length, ap, subst}
 use Rattle.amqp_values.specs.declared.value.Xid.{Xid}
-use Rattle.binding_table.specs.Rows.{before, within}
+use Rattle.sorted_map.specs.Cuts.{before, within}
 use Rattle.xid_map.specs.Xids.{Named, from_xid, find, value_at}
 use Rattle.xid_map.proofs.Naming.{at_point}
 use Rattle.xid_map.proofs.map.XidMap.index_of.Goals as goal

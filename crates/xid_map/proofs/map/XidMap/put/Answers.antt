@@ -2,8 +2,8 @@
 use Rattle.std.proofs.Common.{◌≡◌, ◌∙◌, List, None, length, sym, ap, subst}
 use Rattle.std.specs.List.Sorted.{IsStrictlySortedBy}
 use Rattle.amqp_values.specs.declared.value.Xid.{Xid}
-use Rattle.binding_table.specs.Rows.{before}
-use Rattle.binding_table.proofs.Changing.{insert_cut, sorted_put}
+use Rattle.sorted_map.specs.Cuts.{before}
+use Rattle.sorted_map.proofs.Changing.{insert_cut, sorted_put}
 use Rattle.xid_map.specs.Xids.{Named, by_xid, from_xid, find, put}
 use Rattle.xid_map.proofs.Ordering.{entry_total, none_there}
 use Rattle.xid_map.proofs.map.XidMap.put.Goals as goal

@@ -2,9 +2,9 @@
 use Rattle.std.proofs.Common.{arith, ◌≡◌, ◌<◌, ◌+◌, ◌∙◌, List, length, sym, ap, subst}
 use Rattle.std.specs.List.Sorted.{IsStrictlySortedBy}
 use Rattle.amqp_values.specs.declared.value.Xid.{Xid}
-use Rattle.binding_table.specs.Rows.{before, within}
-use Rattle.binding_table.proofs.Changing.{sorted_remove}
-use Rattle.binding_table.proofs.Cutting.{at_cut, one_taken, none_taken}
+use Rattle.sorted_map.specs.Cuts.{before, within}
+use Rattle.sorted_map.proofs.Changing.{sorted_remove}
+use Rattle.sorted_map.proofs.Cutting.{at_cut, one_taken, none_taken}
 use Rattle.xid_map.specs.Xids.{Named, by_xid, from_xid, find, out}
 use Rattle.xid_map.proofs.Ordering.{entry_total, rises, apart, found_first}
 use Rattle.xid_map.proofs.Naming.{named_so, gone}

@@ -7,9 +7,9 @@ use Rattle.std.specs.declared.cmp.Ordering.{Ordering}
 use Rattle.std.specs.declared.cmp.Ordering.TheVariants.{Less, Equal, Greater}
 use Rattle.std.specs.List.{AllByRecursion, insert, remove}
 use Rattle.std.specs.List.Sorted.{IsStrictlySortedBy}
-use Rattle.named_lists.specs.Lists.{times}
-use Rattle.binding_table.specs.Rows.{collect, before, within, behind, IsOrder}
-use Rattle.binding_table.proofs.Sorting.{parts, no_before, no_later, shown_length, shown_head, shown_tail, collected, shown_at}
+use Rattle.sorted_map.specs.Cuts.{times}
+use Rattle.sorted_map.specs.Cuts.{collect, before, within, behind, IsOrder}
+use Rattle.sorted_map.proofs.Sorting.{parts, no_before, no_later, shown_length, shown_head, shown_tail, collected, shown_at}
 
 -- ---- how often a key stands in a list
 

@@ -8,7 +8,7 @@ use Rattle.std.specs.declared.cmp.Ordering.{Ordering}
 use Rattle.std.specs.declared.cmp.Ordering.TheVariants.{Less, Equal, Greater}
 use Rattle.std.specs.List.{AllByRecursion}
 use Rattle.std.specs.List.Sorted.{IsStrictlySortedBy, IsPartitionPoint, IsPartitionedBy}
-use Rattle.binding_table.specs.Rows.{push, collect, before, within, behind, slot_side, IsOrder}
+use Rattle.sorted_map.specs.Cuts.{push, collect, before, within, behind, slot_side, IsOrder}
 
 module _ {K : Type 0} (R : K → K → Ordering) (total : IsTotalOrder R) where
   turned : (a b : K) (o : Ordering) → R a b ≡ o → R b a ≡ ordering_reverse o

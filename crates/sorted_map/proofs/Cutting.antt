@@ -5,8 +5,8 @@ use Rattle.std.specs.declared.cmp.Ordering.{Ordering}
 use Rattle.std.specs.declared.cmp.Ordering.TheVariants.{Less, Equal, Greater}
 use Rattle.std.specs.List.{AllByRecursion, remove}
 use Rattle.std.specs.List.Sorted.{IsStrictlySortedBy}
-use Rattle.binding_table.specs.Rows.{collect, before, within, behind, outside, IsOrder}
-use Rattle.binding_table.proofs.Sorting.{Rises, parts, no_before, collected}
+use Rattle.sorted_map.specs.Cuts.{collect, before, within, behind, outside, IsOrder}
+use Rattle.sorted_map.proofs.Sorting.{Rises, parts, no_before, collected}
 
 module _ {X : Type 0} where
   pub remove_front : (xs ys : List X) → remove (xs ++ ys) (length xs) ≡ xs ++ drop 1 ys

@@ -1,0 +1,5 @@
+pub mod Sorting
+pub mod Changing
+pub mod Cutting
+pub mod Ordering
+pub mod Keying
