@@ -4,7 +4,8 @@ ghost use Rattle.std.specs.List.Sorted.{IsStrictlySortedBy};
 ghost use Rattle.std.specs.Option.{option_copied};
 ghost use Rattle.std.specs.Ordering.{is_lt, is_le};
 ghost use Rattle.sorted_map.specs.Cuts.{before, within};
-ghost use Rattle.xid_map.specs.Xids.{xid_order, Named, by_xid, from_xid, find, put, out, value_at};
+ghost use Rattle.sorted_map.specs.Map.{value_at};
+ghost use Rattle.xid_map.specs.Xids.{xid_order, by_xid, from_xid, find, put, out};
 
 use amqp_values::Xid;
 use octet_reading::NoMemory;
@@ -33,11 +34,13 @@ impl<T> Model for XidMap<T> {
     ghost use Rattle.std.specs.Prelude.{◌-◌};
     ghost use Rattle.std.specs.Vec.{vec_len, vec_capacity};
     ghost use Rattle.std.specs.List.Sorted.{IsStrictlySortedBy};
-    ghost use Rattle.xid_map.specs.Xids.{Named, by_xid, named_code};
+    ghost use Rattle.sorted_map.specs.Map.{Mapped, mapped_code};
+    ghost use Rattle.xid_map.specs.Xids.{by_xid, xid_code};
+    ghost use Rattle.amqp_values.specs.declared.value.Xid.{Xid};
 
-    ghost Value = { Named T };
+    ghost Value = { Mapped Xid T };
 
-    ghost coded = { named_code T.code };
+    ghost coded = { mapped_code xid_code T.code };
 
     ghost view = { λ m. record { entries = m.entries.items; room = vec_capacity m.entries - vec_len m.entries } };
 
