@@ -3,3 +3,4 @@ pub mod Changing
 pub mod Cutting
 pub mod Ordering
 pub mod Keying
+pub mod Showing

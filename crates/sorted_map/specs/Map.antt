@@ -1,5 +1,5 @@
 -- Keys in order, with what they stand for.
-use Rattle.std.specs.Prelude.{ℕ, zero, suc, List, [], ◌∷◌, ◌++◌, Option, None, Some, refl}
+use Rattle.std.specs.Prelude.{ℕ, zero, suc, List, [], ◌∷◌, ◌++◌, length, map, Option, None, Some, refl}
 use Rattle.std.specs.Coded.{Coded, code_by, coded×, coded_ℕ, coded_list}
 use Rattle.std.specs.declared.cmp.Ordering.{Ordering}
 use Rattle.sorted_map.specs.Cuts.{before, within, behind, outside}
@@ -13,8 +13,12 @@ pub record Mapped (K T : Type 0) : Type 0 where
 abbrev pub mapped_code : {K T : Type 0} → Coded K → Coded T → Coded (Mapped K T)
 mapped_code {K} {T} key value = code_by (List (K × T) × ℕ) (coded× (coded_list (coded× key value)) coded_ℕ) (λ v. (v.entries, v.room)) (λ p. record { entries = p.0; room = p.1 }) (λ _. refl)
 
+-- what each key stands for, seen by a function
+abbrev pub seen : {K T U : Type 0} → (T → U) → List (K × T) → List (K × U)
+seen look es = map (λ e. (e.0, look e.1)) es
+
 module _ {K T : Type 0} where
-  abbrev first_of : List (K × T) → Option T
+  abbrev pub first_of : List (K × T) → Option T
   first_of [] = None
   first_of (e ∷ es) = Some e.1
 
@@ -29,6 +33,16 @@ module _ {K T : Type 0} where
   with_value [] index value = []
   with_value (e ∷ es) zero value = (e.0, value) ∷ es
   with_value (e ∷ es) (suc index) value = e ∷ with_value es index value
+
+  -- where what the key at an index stands for is changed; where there is no such index, all as it was
+  abbrev pub changed_at : ℕ → (T → T) → List (K × T) → List (K × T)
+  changed_at index change [] = []
+  changed_at zero change (e ∷ es) = (e.0, change e.1) ∷ es
+  changed_at (suc index) change (e ∷ es) = e ∷ changed_at index change es
+
+  abbrev pub changed_if : Option T → ℕ → (T → T) → List (K × T) → List (K × T)
+  changed_if None index change es = es
+  changed_if (Some value) index change es = changed_at index change es
 
   module _ (cmp : K → K → Ordering) where
     abbrev pub by_key : K × T → K × T → Ordering
@@ -49,3 +63,11 @@ module _ {K T : Type 0} where
     -- without a key
     abbrev pub out : K → List (K × T) → List (K × T)
     out key es = outside (from_key key) es
+
+    -- the index of a key, counted from 0, or where it would go
+    abbrev pub index_of : K → List (K × T) → ℕ
+    index_of key es = length (before (from_key key) es)
+
+    -- where what a key stands for is changed; where it isn't there, all as it was
+    abbrev pub changed : K → (T → T) → List (K × T) → List (K × T)
+    changed key change es = changed_if (find key es) (index_of key es) change es

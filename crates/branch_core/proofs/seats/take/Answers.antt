@@ -1,0 +1,25 @@
+-- What is written is a change of the seat.
+use Rattle.std.proofs.Common.{◌≡◌, ◌<◌, ◌≤◌, ◌+◌, ◌∙◌, List, length, Option, None, Some, is_some, ap, sym, subst, refl, rules, arith, ℕ, OnOk}
+use Rattle.std.proofs.lemmas.Bool.{true≢false}
+use Rattle.sorted_map.proofs.Showing.{seen_through, seen_find, seen_put, seen_changed, seen_change, unchanged, seen_there, seen_written, seen_length, seen_value, value_with, changed_below, changed_one, changed_all, changed_length}
+use Rattle.std.specs.Option.{option_map}
+use Rattle.std.specs.Ordering.{nat_cmp}
+use Rattle.sorted_map.specs.Map.{find, changed, changed_at, changed_if, value_at, index_of, with_value, seen}
+use Rattle.xid_map.specs.Xids.{xid_order}
+use Rattle.branch_core.specs.Held.{Held, held, joined, given, changed_by}
+use Rattle.branch_core.specs.State.{Seated, seated, seats_of, branches_of, tx_rooms, tx_room, tx_in, room_in, intent_rooms}
+use Rattle.branch_core.specs.Acts.{turned, tx_given, tx_emptied, selecting, seat_changed_if, empty_seat}
+use Rattle.branch_core.specs.Faults.{status_in, linked_in}
+use Rattle.branch_core.proofs.seats.take.Goals as goal
+
+pub returns-in-Some-clause-intents : goal.returns-in-Some-clause-intents
+returns-in-Some-clause-intents c = c.take.ensures.intents ∙ sym (ap tx_in (seen_find seated nat_cmp c.args.session c.args.seats.now.entries ∙ ap (option_map seated) (sym c.in-Some.ensures.some.1 ∙ c.value_mut.ensures.value)))
+
+pub returns-in-Some-clause-seats : goal.returns-in-Some-clause-seats
+returns-in-Some-clause-seats c = seen_changed seated nat_cmp c.args.session tx_emptied c.args.seats.now.entries c.in-Some.index c.value_mut.result.now c.take.new.self c.in-Some.ensures.index c.value_mut.ensures.value c.in-Some.ensures.some.1 c.take.ensures.seated
+
+pub returns-in-None-clause-intents : goal.returns-in-None-clause-intents
+returns-in-None-clause-intents c = sym (ap tx_in (seen_find seated nat_cmp c.args.session c.args.seats.now.entries ∙ ap (option_map seated) c.in-None.ensures.none))
+
+pub returns-in-None-clause-seats : goal.returns-in-None-clause-seats
+returns-in-None-clause-seats c = sym (unchanged nat_cmp c.args.session tx_emptied (seats_of c.args.seats.now.entries) (seen_find seated nat_cmp c.args.session c.args.seats.now.entries ∙ ap (option_map seated) c.in-None.ensures.none))

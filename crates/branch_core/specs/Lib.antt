@@ -1,0 +1,4 @@
+pub mod Held
+pub mod State
+pub mod Faults
+pub mod Acts
