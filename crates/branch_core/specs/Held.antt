@@ -57,8 +57,19 @@ as_prepared h = record h { prepared = true }
 abbrev pub given : Intent → Held → Held
 given intent h = record h { intents = h.intents ++ intent ∷ [] }
 
+abbrev pub intents_of : Held → List Intent
+intents_of h = h.intents
+
 abbrev pub emptied : Held → Held
 emptied h = record h { intents = [] }
+
+-- it is marked, and its intents are to be undone
+abbrev is_any : List Intent → Bool
+is_any [] = false
+is_any (i ∷ is) = true
+
+abbrev pub is_undone : Held → Bool
+is_undone h = not (h.status == 0) && is_any h.intents
 
 abbrev pub changed_by : Change → Held → Held
 changed_by (Part session fails) h = parted fails session h

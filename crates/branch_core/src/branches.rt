@@ -1,13 +1,13 @@
 //! The branches.
-ghost use Rattle.std.specs.Prelude.{◌≡◌, ◌≤◌, ◌<◌, ◌+◌, ◌∷◌, [], None, Some, IfSome, IfNone, IfOk, IfErr, OnOk, OnErr, length, map, filter, is_some, false};
+ghost use Rattle.std.specs.Prelude.{◌≡◌, ◌≤◌, ◌<◌, ◌+◌, ◌∷◌, [], None, Some, IfSome, IfNone, IfOk, IfErr, OnOk, OnErr, length, map, filter, is_some, true, false};
 ghost use Rattle.std.specs.Option.{option_map};
-ghost use Rattle.branch_core.specs.declared.branch.Change.TheVariants as change;
-ghost use Rattle.branch_core.specs.declared.seats.Turn.TheVariants as turn;
-ghost use Rattle.branch_core.specs.declared.marks.Standing.TheVariants as standing;
-ghost use Rattle.xid_map.specs.Xids.{find};
-ghost use Rattle.sorted_map.specs.Map.{value_at, changed_at};
-ghost use Rattle.branch_core.specs.State.{seat_of, dtx_in, tx_in, owner_of, IsBelow, HasRoom};
-ghost use Rattle.branch_core.specs.Faults.{Tells, status_in, standing_in, associated_in, start_fault, end_fault, prepare_fault, commit_fault, rollback_fault, timeout_fault, select_fault};
+
+
+
+ghost use Rattle.xid_map.specs.Xids.{xid_order, find};
+ghost use Rattle.sorted_map.specs.Map.{index_of, value_at, changed_at};
+ghost use Rattle.branch_core.specs.State.{seat_of, dtx_in, tx_in, active_in, owner_of, IsBelow, HasRoom};
+ghost use Rattle.branch_core.specs.Faults.{Tells, status_in, standing_in, associated_in, is_unfit, is_at, start_fault, end_fault, prepare_fault, commit_fault, rollback_fault, timeout_fault, select_fault};
 ghost use Rattle.branch_core.specs.Acts.{started, placed, ended, end_status, selected, finished, added, seconds_of};
 
 use crate::branch::{Branch, Change};
@@ -116,5 +116,88 @@ impl Branches {
         ensures { result ≡ length self.now.state.branches }
     {
         self.branches.entries().len()
+    }
+
+    /// Why dtx.select or tx.select is refused.
+    fn select_fault(&self, session: u64, dtx: bool) -> Option<u16>
+        ensures { result ≡ select_fault session dtx self.now.state }
+    {
+        if seats::tx(&self.seats, session).is_some() {
+            return Some(409);
+        }
+        if !dtx && seats::has_dtx(&self.seats, session) {
+            return Some(409);
+        }
+        None
+    }
+
+    /// Why dtx.start is refused.
+    fn start_fault(&self, session: u64, xid: &Xid, how: Start) -> Option<u16>
+        ensures { result ≡ start_fault session xid.now self.now.state how }
+    {
+        if !seats::has_dtx(&self.seats, session) {
+            return Some(409);
+        }
+        if seats::active(&self.seats, session).is_some() {
+            return Some(409);
+        }
+        let is_there = table::is_there(&self.branches, xid);
+        if how == Start::New && is_there {
+            return Some(530);
+        }
+        if how != Start::New && !is_there {
+            return Some(404);
+        }
+        if table::is_prepared(&self.branches, xid) {
+            return Some(409);
+        }
+        if is_unfit(how, table::is_linked(&self.branches, xid, session)) {
+            return Some(409);
+        }
+        if how == Start::New && self.branches.entries().len() >= MOST {
+            return Some(506);
+        }
+        None
+    }
+
+    /// Why dtx.end is refused.
+    fn end_fault(&self, session: u64, xid: &Xid, how: End) -> Option<u16>
+        ensures { result ≡ end_fault session xid.now self.now.state how }
+    {
+        if !seats::has_dtx(&self.seats, session) {
+            return Some(409);
+        }
+        if !table::is_there(&self.branches, xid) {
+            return Some(404);
+        }
+        if !table::is_linked(&self.branches, xid, session) {
+            return Some(409);
+        }
+        if how == End::Suspend && !self.is_active_in(session, xid) {
+            return Some(409);
+        }
+        None
+    }
+
+    /// Whether a session is active in a branch that is there.
+    fn is_active_in(&self, session: u64, xid: &Xid) -> bool
+        requires { is_some (find xid.now self.now.state.branches) ≡ true }
+        ensures { result ≡ is_at (index_of xid_order xid.now self.now.state.branches) (active_in (seat_of session self.now.state)) }
+    {
+        match seats::active(&self.seats, session) {
+            Some(active) => active == table::place_of(&self.branches, xid),
+            None => false,
+        }
+    }
+}
+
+/// Whether resume finds no association, or join finds one.
+fn is_unfit(how: Start, linked: bool) -> bool
+    ensures { result ≡ is_unfit how linked }
+{
+    match how {
+        Start::New => false,
+        Start::Join => linked,
+        Start::Resume => !linked,
     }
 }

@@ -1,10 +1,10 @@
 //! Branches in order.
-ghost use Rattle.std.specs.Prelude.{◌≡◌, ◌≤◌, ◌<◌, ◌+◌, [], None, Some, IfSome, IfNone, OnOk, length, is_some, false};
+ghost use Rattle.std.specs.Prelude.{◌≡◌, ◌≤◌, ◌<◌, ◌+◌, [], None, Some, IfSome, IfNone, OnOk, length, is_some, true, false};
 ghost use Rattle.std.specs.Option.{option_map};
 ghost use Rattle.number_tree.specs.Numbers.{has};
 ghost use Rattle.sorted_map.specs.Map.{changed, changed_at, seen, value_at, index_of};
-ghost use Rattle.xid_map.specs.Xids.{xid_order, find};
-ghost use Rattle.branch_core.specs.Held.{held, joined, given, emptied, changed_by};
+ghost use Rattle.xid_map.specs.Xids.{xid_order, find, put, out};
+ghost use Rattle.branch_core.specs.Held.{held, fresh, joined, given, emptied, intents_of, is_undone, changed_by};
 ghost use Rattle.branch_core.specs.State.{branches_of, intent_rooms, room_in};
 ghost use Rattle.branch_core.specs.Faults.{status_in, prepared_in, associated_in, linked_in, standing_in};
 
@@ -45,6 +45,18 @@ pub(crate) fn is_prepared(branches: &XidMap<Branch>, xid: &Xid) -> bool
     match branch(branches, xid) {
         Some(branch) => branch.prepared,
         None => false,
+    }
+}
+
+/// The place of a branch that is there, in order of xid, counted from 0.
+pub(crate) fn place_of(branches: &XidMap<Branch>, xid: &Xid) -> usize
+    requires { is_some (find xid.now (branches_of branches.now.entries)) ≡ true }
+    ensures place { result ≡ index_of xid_order xid.now (branches_of branches.now.entries) }
+    ensures bound { result < length branches.now.entries }
+{
+    match branches.index_of(xid) {
+        Some(place) => place,
+        None => unreachable!(),
     }
 }
 
@@ -145,4 +157,48 @@ pub(crate) fn reserve(
     ensures ok { OnOk result (more ≤ room_in (value_at (intent_rooms branches.new.entries) place)) }
 {
     branches.value_mut(place).intents.reserve(more)
+}
+
+/// A session begins a new branch; its place.
+pub(crate) fn begin(
+    branches: &mut XidMap<Branch>,
+    alloc: Global,
+    session: u64,
+    xid: Xid,
+    slot: Slot,
+) -> usize
+    requires new { find xid (branches_of branches.old.entries) ≡ None }
+    requires room { 0 < branches.old.room }
+    ensures branches { branches_of branches.new.entries ≡ put xid (fresh session) (branches_of branches.old.entries) }
+    ensures place { result ≡ index_of xid_order xid (branches_of branches.old.entries) }
+{
+    branches.put(xid, Branch::new(alloc, session, slot))
+}
+
+/// Takes a branch out; its place and its intents.
+pub(crate) fn finish(branches: &mut XidMap<Branch>, xid: &Xid) -> (usize, Intents)
+    requires { is_some (find xid.now (branches_of branches.old.entries)) ≡ true }
+    ensures branches { branches_of branches.new.entries ≡ out xid.now (branches_of branches.old.entries) }
+    ensures place { result.0 ≡ index_of xid_order xid.now (branches_of branches.old.entries) }
+    ensures bound { result.0 < length branches.old.entries }
+    ensures intents { Some result.1.items ≡ option_map intents_of (find xid.now (branches_of branches.old.entries)) }
+{
+    let place = place_of(branches, xid);
+    match branches.take(xid) {
+        Some((name, branch)) => {
+            drop(name);
+            (place, into_intents(branch))
+        }
+        None => unreachable!(),
+    }
+}
+
+fn into_intents(branch: Branch) -> Intents
+    ensures { result.items ≡ (held branch).intents }
+{
+    let Branch {
+        sessions, intents, ..
+    } = branch;
+    drop(sessions);
+    intents
 }

@@ -1,11 +1,11 @@
 //! The map.
-ghost use Rattle.std.specs.Prelude.{◌≡◌, ◌+◌, ◌<◌, ◌≤◌, [], length, None, Some, OnOk, IfSome, IfNone};
+ghost use Rattle.std.specs.Prelude.{◌≡◌, ◌+◌, ◌<◌, ◌≤◌, [], length, None, Some, OnOk, IsOk, IfSome, IfNone};
 ghost use Rattle.std.specs.List.Sorted.{IsStrictlySortedBy};
 ghost use Rattle.std.specs.Option.{option_copied};
 ghost use Rattle.std.specs.Ordering.{is_lt, is_le};
 ghost use Rattle.std.specs.declared.cmp.Ordering.TheVariants.{Equal};
 ghost use Rattle.sorted_map.specs.Cuts.{before, within};
-ghost use Rattle.sorted_map.specs.Map.{by_key, from_key, find, put, out, value_at};
+ghost use Rattle.sorted_map.specs.Map.{by_key, from_key, find, put, out, index_of, value_at};
 
 use octet_reading::NoMemory;
 use std::alloc::Global;
@@ -68,6 +68,7 @@ impl<K: Ord, T> SortedMap<K, T> {
         ensures entries { self.new.entries ≡ self.old.entries }
         ensures ok { OnOk result (more ≤ self.new.room) }
         ensures room { self.old.room ≤ self.new.room }
+        ensures ready { more ≤ self.old.room → IsOk result }
     {
         self.entries.reserve(more)?;
         Ok(())
@@ -117,11 +118,12 @@ impl<K: Ord, T> SortedMap<K, T> {
         &mut self.entries[index].1
     }
 
-    /// Puts a key in that isn't there. Takes no memory.
-    pub fn put(&mut self, key: K, value: T)
+    /// Puts a key in that isn't there. The index that it has then. Takes no memory.
+    pub fn put(&mut self, key: K, value: T) -> usize
         requires new { find K.cmp key self.old.entries ≡ None }
         requires room { 0 < self.old.room }
         ensures entries { self.new.entries ≡ put K.cmp key value self.old.entries }
+        ensures index { result ≡ index_of K.cmp key self.old.entries }
         ensures room { self.new.room + 1 ≡ self.old.room }
     {
         let (low, _) = part(self.entries.as_slice(), &key);
@@ -129,6 +131,7 @@ impl<K: Ord, T> SortedMap<K, T> {
             Ok(()) => (),
             Err(_) => unreachable!(),
         }
+        low
     }
 
     /// Takes a key out; none where it isn't there. Takes no memory.

@@ -13,7 +13,7 @@ fn filled(alloc: Global) -> Result<SortedMap<u64, u32>, NoMemory> {
     for key in keys {
         value = value.wrapping_add(1);
         if map.get(&key).is_none() && map.reserve(1).is_ok() {
-            map.put(key, value);
+            let _ = map.put(key, value);
         }
     }
     Ok(map)

@@ -1,10 +1,10 @@
 //! The map.
-ghost use Rattle.std.specs.Prelude.{◌≡◌, ◌+◌, ◌<◌, ◌≤◌, [], length, slice_index_or, None, Some, OnOk, IfSome, IfNone};
+ghost use Rattle.std.specs.Prelude.{◌≡◌, ◌+◌, ◌<◌, ◌≤◌, [], length, slice_index_or, None, Some, OnOk, IsOk, IfSome, IfNone};
 ghost use Rattle.std.specs.List.Sorted.{IsStrictlySortedBy};
 ghost use Rattle.std.specs.Option.{option_copied};
 ghost use Rattle.std.specs.Ordering.{is_lt, is_le};
 ghost use Rattle.sorted_map.specs.Cuts.{before, within};
-ghost use Rattle.sorted_map.specs.Map.{value_at};
+ghost use Rattle.sorted_map.specs.Map.{index_of, value_at};
 ghost use Rattle.xid_map.specs.Xids.{xid_order, by_xid, from_xid, find, put, out};
 
 use amqp_values::Xid;
@@ -82,6 +82,7 @@ impl<T> XidMap<T> {
         ensures entries { self.new.entries ≡ self.old.entries }
         ensures ok { OnOk result (more ≤ self.new.room) }
         ensures room { self.old.room ≤ self.new.room }
+        ensures ready { more ≤ self.old.room → IsOk result }
     {
         self.entries.reserve(more)?;
         Ok(())
@@ -131,11 +132,12 @@ impl<T> XidMap<T> {
         &mut self.entries[index].1
     }
 
-    /// Puts a name in that isn't there. Takes no memory.
-    pub fn put(&mut self, xid: Xid, value: T)
+    /// Puts a name in that isn't there. The index that it has then. Takes no memory.
+    pub fn put(&mut self, xid: Xid, value: T) -> usize
         requires new { find xid self.old.entries ≡ None }
         requires room { 0 < self.old.room }
         ensures entries { self.new.entries ≡ put xid value self.old.entries }
+        ensures index { result ≡ index_of xid_order xid self.old.entries }
         ensures room { self.new.room + 1 ≡ self.old.room }
     {
         let (low, _) = part(self.entries.as_slice(), &xid);
@@ -143,6 +145,7 @@ impl<T> XidMap<T> {
             Ok(()) => (),
             Err(_) => unreachable!(),
         }
+        low
     }
 
     /// Takes a name out; none where it isn't there. Takes no memory.

@@ -22,7 +22,7 @@ fn put(map: &mut XidMap<u32>, xid: Xid, value: u32) -> bool {
         drop(xid);
         return false;
     }
-    map.put(xid, value);
+    let _ = map.put(xid, value);
     true
 }
 

@@ -1,0 +1,21 @@
+-- The branch is taken out.
+use Rattle.std.proofs.Common.{◌≡◌, ◌<◌, ◌∙◌, List, length, Option, None, Some, is_some, true, ap, sym, refl}
+use Rattle.std.proofs.lemmas.Bool.{true≢false}
+use Rattle.std.specs.Option.{option_map}
+use Rattle.sorted_map.proofs.Showing.{seen_find, seen_put, seen_out, seen_index}
+use Rattle.sorted_map.specs.Map.{index_of}
+use Rattle.xid_map.specs.Xids.{xid_order, find, put}
+use Rattle.branch_core.specs.declared.branch.Branch.{Branch}
+use Rattle.branch_core.specs.Held.{Held, held, fresh, intents_of}
+use Rattle.branch_core.specs.State.{branches_of}
+use Rattle.branch_core.proofs.Finding.{is_found, not_found}
+use Rattle.branch_core.proofs.table.finish.Goals as goal
+
+pub unreachable-requires : goal.unreachable-requires
+unreachable-requires c = is_found held c.args.xid.now c.args.branches.now.entries c.requires c.in-None.ensures.none
+
+pub returns-clause-branches : goal.returns-clause-branches
+returns-clause-branches c = ap branches_of c.take.ensures.entries ∙ seen_out held xid_order c.args.xid.now c.args.branches.now.entries
+
+pub returns-clause-intents : goal.returns-clause-intents
+returns-clause-intents c = ap (λ is. Some is) c.into_intents.ensures ∙ sym (ap (option_map intents_of) (seen_find held xid_order c.args.xid.now c.args.branches.now.entries ∙ ap (option_map held) c.in-Some.ensures.some.1))
