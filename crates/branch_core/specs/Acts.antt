@@ -1,10 +1,12 @@
 -- What each call makes of the branches.
-use Rattle.std.specs.Prelude.{ℕ, zero, suc, ◌+◌, ◌-◌, ◌<◌, ◌^◌, nat_lt, ◌==◌, not, Bool, true, false, if◌then◌else◌, List, [], ◌∷◌, ◌++◌, map, filter, filter_map, Option, None, Some, is_some}
+use Rattle.std.specs.Prelude.{ℕ, zero, suc, ◌+◌, ◌-◌, ◌&&◌, position, ◌<◌, ◌^◌, nat_lt, ◌==◌, not, Bool, true, false, if◌then◌else◌, List, [], ◌∷◌, ◌++◌, map, filter, filter_map, Option, None, Some, is_some}
 use Rattle.std.specs.Option.{option_map}
 use Rattle.std.specs.Ordering.{nat_cmp}
+use Rattle.std.specs.List.{list_any}
+use Rattle.branch_intents.specs.Intents.{names}
 use Rattle.amqp_values.specs.declared.value.Xid.{Xid}
 use Rattle.branch_intents.specs.declared.intents.Intent.{Intent}
-use Rattle.sorted_map.specs.Map.{index_of, changed, changed_at, seen}
+use Rattle.sorted_map.specs.Map.{index_of, changed, changed_at, seen, value_at}
 use Rattle.sorted_map.specs.Map as maps
 use Rattle.xid_map.specs.Xids.{xid_order, find, put, out}
 use Rattle.branch_core.specs.declared.seats.Turn.{Turn}
@@ -15,7 +17,7 @@ use Rattle.branch_core.specs.declared.marks.End.{End}
 use Rattle.branch_core.specs.declared.marks.End.TheVariants as end
 use Rattle.branch_core.specs.declared.marks.Owner.{Owner}
 use Rattle.branch_core.specs.declared.marks.Owner.TheVariants as owner
-use Rattle.branch_core.specs.Held.{Held, fresh, joined, parted, given, without_intents}
+use Rattle.branch_core.specs.Held.{Held, fresh, joined, parted, given, without_intents, left_in, expired_in, gone_in, intents_of, emptied, is_undone}
 use Rattle.branch_core.specs.State.{State, Seated, seat_of, owner_of}
 use Rattle.branch_core.specs.Faults.{status_in}
 
@@ -31,7 +33,7 @@ abbrev pub activate : ℕ → Seated → Seated
 activate place t = record t { active = Some place }
 
 -- where the session was active at that place, it is no more
-abbrev left_by : ℕ → Option ℕ → Option ℕ
+abbrev pub left_by : ℕ → Option ℕ → Option ℕ
 left_by place None = None
 left_by place (Some other) = if other == place then None else Some other
 
@@ -39,10 +41,10 @@ abbrev pub left : ℕ → Seated → Seated
 left place t = record t { active = left_by place t.active }
 
 -- a branch that comes in at a place moves those from there on; one that goes moves those behind it
-abbrev up : ℕ → Option ℕ
+abbrev pub up : ℕ → Option ℕ
 up place = if nat_lt (place + 1) (2 ^ 64) then Some (place + 1) else None
 
-abbrev pushed_by : ℕ → Option ℕ → Option ℕ
+abbrev pub pushed_by : ℕ → Option ℕ → Option ℕ
 pushed_by place None = None
 pushed_by place (Some other) = if nat_lt other place then Some other else up other
 
@@ -50,7 +52,7 @@ abbrev pub pushed : ℕ → Seated → Seated
 pushed place t = record t { active = pushed_by place t.active }
 
 -- and who was active in it is active nowhere
-abbrev pulled_by : ℕ → Option ℕ → Option ℕ
+abbrev pub pulled_by : ℕ → Option ℕ → Option ℕ
 pulled_by place None = None
 pulled_by place (Some other) = if nat_lt place other then Some (other - 1) else left_by place (Some other)
 
@@ -86,12 +88,15 @@ placed session xid s = record {
   seats = changed nat_cmp session (activate (place_of xid s)) (seen (pushed (place_of xid s)) s.seats);
 }
 
--- join gives the mark of a marked branch without an association
-abbrev joined_if : ℕ → ℕ → Xid → State → State
-joined_if zero session xid s = record {
+abbrev pub joined_in : ℕ → Xid → State → State
+joined_in session xid s = record {
   branches = changed xid_order xid (joined session) s.branches;
   seats = changed nat_cmp session (activate (place_of xid s)) s.seats;
 }
+
+-- join gives the mark of a marked branch without an association
+abbrev joined_if : ℕ → ℕ → Xid → State → State
+joined_if zero session xid s = joined_in session xid s
 joined_if (suc status) session xid s = s
 
 abbrev pub started : Start → ℕ → Xid → State → State
@@ -144,12 +149,59 @@ added intent session s = added_by (owner_of session s) intent session s
 abbrev pub tx_emptied : Seated → Seated
 tx_emptied t = record t { tx = option_map (λ intents. []) t.tx }
 
+-- a session's tx without the intents on what is gone
+abbrev pub seat_without : List ℕ → Option ℕ → Seated → Seated
+seat_without queue number t = record t { tx = option_map (without_intents queue number) t.tx }
+
 abbrev pub turned : Turn → Seated → Seated
 turned (Activate place) t = activate place t
 turned (Leave place) t = left place t
 turned (Push place) t = pushed place t
 turned (Pull place) t = pulled place t
-turned (Gone queue number) t = record t { tx = option_map (without_intents queue.now number) t.tx }
+turned (Gone queue number) t = seat_without queue.now number t
 
 abbrev pub seconds_of : Held → ℕ
 seconds_of h = h.seconds
+
+-- ---- all branches
+
+abbrev pub left_all : ℕ → State → State
+left_all session s = record { branches = seen (left_in session) s.branches; seats = maps.out nat_cmp session s.seats }
+
+abbrev pub expired_all : ℕ → State → State
+expired_all now s = record s { branches = seen (expired_in now) s.branches }
+
+abbrev pub gone_all : List ℕ → Option ℕ → State → State
+gone_all queue number s = record { branches = seen (gone_in queue number) s.branches; seats = seen (seat_without queue number) s.seats }
+
+-- the place of the first branch that is marked and has intents
+abbrev pub undo_place : State → Option ℕ
+undo_place s = position (λ e. is_undone e.1) s.branches
+
+abbrev undone_by : Option ℕ → State → State
+undone_by None s = s
+undone_by (Some place) s = record s { branches = changed_at place emptied s.branches }
+
+abbrev pub undone : State → State
+undone s = undone_by (undo_place s) s
+
+abbrev undo_intents_by : Option ℕ → State → Option (List Intent)
+undo_intents_by None s = None
+undo_intents_by (Some place) s = option_map intents_of (value_at s.branches place)
+
+abbrev pub undo_intents : State → Option (List Intent)
+undo_intents s = undo_intents_by (undo_place s) s
+
+-- ---- questions
+
+abbrev pub start_status : Start → Option Held → ℕ
+start_status start.New found = 0
+start_status start.Join found = status_in found
+start_status start.Resume found = status_in found
+
+abbrev pub prepared_xids : List (Xid × Held) → List Xid
+prepared_xids branches = map (λ e. e.0) (filter (λ e. e.1.prepared) branches)
+
+-- a prepared branch names the queue
+abbrev pub names_queue : List ℕ → Held → Bool
+names_queue queue h = h.prepared && list_any (names queue) h.intents

@@ -24,6 +24,10 @@ abbrev pub Tells : BranchFault → Option ℕ → Type 0
 Tells (Refused code) fault = fault ≡ Some code
 Tells NoMemory fault = fault ≡ None
 
+abbrev pub IsRefusal : BranchFault → Type 0
+IsRefusal (Refused code) = Unit {0}
+IsRefusal NoMemory = ⊥
+
 -- ---- a branch, where it is there
 
 abbrev pub status_in : Option Held → ℕ

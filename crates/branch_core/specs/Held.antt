@@ -71,10 +71,22 @@ is_any (i ∷ is) = true
 abbrev pub is_undone : Held → Bool
 is_undone h = not (h.status == 0) && is_any h.intents
 
+-- the session ends: its branch is marked
+abbrev pub left_in : ℕ → Held → Held
+left_in session h = if has session h.sessions then parted true session h else h
+
+-- time has come so far: what is due is marked
+abbrev pub expired_in : ℕ → Held → Held
+expired_in now h = if is_due now h.deadline then marked 2 h else h
+
+-- a copy or a queue is gone, which is nothing to a prepared branch
+abbrev pub gone_in : List ℕ → Option ℕ → Held → Held
+gone_in queue number h = if h.prepared then h else record h { intents = without_intents queue number h.intents }
+
 abbrev pub changed_by : Change → Held → Held
 changed_by (Part session fails) h = parted fails session h
-changed_by (Leave session) h = if has session h.sessions then parted true session h else h
-changed_by (Expire now) h = if is_due now h.deadline then marked 2 h else h
+changed_by (Leave session) h = left_in session h
+changed_by (Expire now) h = expired_in now h
 changed_by (Time seconds now) h = timed seconds now h
 changed_by Prepare h = as_prepared h
-changed_by (Gone queue number) h = if h.prepared then h else record h { intents = without_intents queue.now number h.intents }
+changed_by (Gone queue number) h = gone_in queue.now number h

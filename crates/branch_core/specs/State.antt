@@ -49,6 +49,9 @@ branches_of es = seen held es
 abbrev pub seats_of : List (ℕ × Seat) → List (ℕ × Seated)
 seats_of es = seen seated es
 
+abbrev pub state_of : List (Xid × Branch) → List (ℕ × Seat) → State
+state_of branches seats = record { branches = branches_of branches; seats = seats_of seats }
+
 abbrev pub intent_rooms : List (Xid × Branch) → List (Xid × ℕ)
 intent_rooms es = seen (λ b. b.intents.room) es
 

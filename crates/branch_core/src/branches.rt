@@ -1,14 +1,17 @@
 //! The branches.
-ghost use Rattle.std.specs.Prelude.{◌≡◌, ◌≤◌, ◌<◌, ◌+◌, ◌∷◌, [], None, Some, IfSome, IfNone, IfOk, IfErr, OnOk, OnErr, length, map, filter, is_some, true, false};
+ghost use Rattle.std.specs.Prelude.{◌≡◌, ◌≤◌, ◌<◌, ◌+◌, ◌∷◌, [], None, Some, IfSome, IfNone, IfOk, IfErr, OnOk, OnErr, IsOk, length, map, filter, is_some, true, false};
 ghost use Rattle.std.specs.Option.{option_map};
 
 
 
 ghost use Rattle.xid_map.specs.Xids.{xid_order, find};
 ghost use Rattle.sorted_map.specs.Map.{index_of, value_at, changed_at};
-ghost use Rattle.branch_core.specs.State.{seat_of, dtx_in, tx_in, active_in, owner_of, IsBelow, HasRoom};
-ghost use Rattle.branch_core.specs.Faults.{Tells, status_in, standing_in, associated_in, is_unfit, is_at, start_fault, end_fault, prepare_fault, commit_fault, rollback_fault, timeout_fault, select_fault};
-ghost use Rattle.branch_core.specs.Acts.{started, placed, ended, end_status, selected, finished, added, seconds_of};
+ghost use Rattle.branch_core.specs.Held.{intents_of, timed, as_prepared};
+ghost use Rattle.branch_core.specs.declared.marks.Start.TheVariants as start;
+ghost use Rattle.branch_core.specs.declared.marks.Standing.TheVariants as standing;
+ghost use Rattle.branch_core.specs.State.{seat_of, dtx_in, tx_in, active_in, owner_of, IsBelow, AllBelow, HasRoom, branches_of, seats_of, state_of};
+ghost use Rattle.branch_core.specs.Faults.{Tells, IsRefusal, is_new, status_in, standing_in, associated_in, linked_in, is_unfit, is_at, start_fault, end_fault, timeout_fault, select_fault};
+ghost use Rattle.branch_core.specs.Acts.{start_status, started, placed, joined_in, ended, end_status, selected, finished, with_branch, with_seat, tx_emptied, left_all, expired_all, gone_all, seconds_of};
 
 use crate::branch::{Branch, Change};
 use crate::marks::{BranchFault, End, Owner, Standing, Start, Status, Xids};
@@ -118,6 +121,202 @@ impl Branches {
         self.branches.entries().len()
     }
 
+    /// A session selects dtx, or tx: refused where it has selected the other kind, or tx already. With room for a session it
+    /// takes no memory.
+    pub fn select(&mut self, session: u64, dtx: bool) -> Result<(), BranchFault>
+        ensures fine { OnOk result (select_fault session dtx self.old.state ≡ None) }
+        ensures state { OnOk result (self.new.state ≡ selected session dtx self.old.state) }
+        ensures fault { IfErr result (λ fault. Tells fault (select_fault session dtx self.old.state)) }
+        ensures err { OnErr result (self.new.state ≡ self.old.state) }
+        ensures ready { 0 < self.old.room.seats → IfErr result IsRefusal }
+    {
+        if let Some(code) = self.select_fault(session, dtx) {
+            return Err(BranchFault::Refused(code));
+        }
+        self.seats.reserve(1)?;
+        seats::select(&mut self.seats, self.alloc, session, dtx);
+        Ok(())
+    }
+
+    /// A session begins work on a branch, and is active in it then. Join of a marked branch gives the mark alone. With room,
+    /// join and resume take no memory.
+    pub fn start(&mut self, session: u64, xid: &Xid, how: Start) -> Result<Status, BranchFault>
+        ensures fine { OnOk result (start_fault session xid.now self.old.state how ≡ None) }
+        ensures status { IfOk result (λ status. status ≡ start_status how (find xid.now self.old.state.branches)) }
+        ensures state { OnOk result (self.new.state ≡ started how session xid.now self.old.state) }
+        ensures fault { IfErr result (λ fault. Tells fault (start_fault session xid.now self.old.state how)) }
+        ensures err { OnErr result (self.new.state ≡ self.old.state) }
+        ensures ready { is_new how ≡ false → self.old.room.slot ≡ true → IfErr result IsRefusal }
+    {
+        if let Some(code) = self.start_fault(session, xid, how) {
+            return Err(BranchFault::Refused(code));
+        }
+        let status = table::status(&self.branches, xid);
+        match how {
+            Start::New => {
+                self.start_new(session, xid)?;
+                Ok(0)
+            }
+            Start::Join => {
+                self.start_join(session, xid)?;
+                Ok(status)
+            }
+            Start::Resume => {
+                self.start_resume(session, xid);
+                Ok(status)
+            }
+        }
+    }
+
+    /// A session begins a new branch. Takes no memory.
+    pub fn place(&mut self, session: u64, xid: Xid)
+        requires fault { start_fault session xid self.old.state start.New ≡ None }
+        requires branch { 0 < self.old.room.branches }
+        requires slot { self.old.room.slot ≡ true }
+        ensures { self.new.state ≡ placed session xid self.old.state }
+    {
+        match self.slot.take() {
+            Some(slot) => begin(
+                &mut self.branches,
+                &mut self.seats,
+                self.alloc,
+                session,
+                xid,
+                slot,
+            ),
+            None => unreachable!(),
+        }
+    }
+
+    /// A session ends work on a branch or suspends it. The mark that the branch has then, or 0. Takes no memory.
+    pub fn end(&mut self, session: u64, xid: &Xid, how: End) -> Result<Status, BranchFault>
+        ensures fine { OnOk result (end_fault session xid.now self.old.state how ≡ None) }
+        ensures status { IfOk result (λ status. status ≡ end_status how session (find xid.now self.old.state.branches)) }
+        ensures state { OnOk result (self.new.state ≡ ended how session xid.now self.old.state) }
+        ensures fault { IfErr result (λ fault. Tells fault (end_fault session xid.now self.old.state how)) }
+        ensures err { OnErr result (self.new.state ≡ self.old.state) }
+        ensures ready { IfErr result IsRefusal }
+    {
+        if let Some(code) = self.end_fault(session, xid, how) {
+            return Err(BranchFault::Refused(code));
+        }
+        Ok(part(
+            &mut self.branches,
+            &mut self.seats,
+            session,
+            xid,
+            how,
+        ))
+    }
+
+    /// A branch is given so many seconds from now, in seconds; no time where 0. Takes no memory.
+    pub fn set_timeout(&mut self, xid: &Xid, seconds: u32, now: u64) -> Result<(), BranchFault>
+        ensures fine { OnOk result (timeout_fault xid.now self.old.state ≡ None) }
+        ensures state { OnOk result (self.new.state ≡ with_branch xid.now (timed seconds now) self.old.state) }
+        ensures fault { IfErr result (λ fault. Tells fault (timeout_fault xid.now self.old.state)) }
+        ensures err { OnErr result (self.new.state ≡ self.old.state) }
+        ensures ready { IfErr result IsRefusal }
+    {
+        if !table::is_there(&self.branches, xid) {
+            return Err(BranchFault::Refused(404));
+        }
+        let _ = table::change_one(&mut self.branches, xid, Change::Time { seconds, now });
+        Ok(())
+    }
+
+    /// An idle branch is prepared. Takes no memory.
+    pub fn prepared(&mut self, xid: &Xid)
+        requires { standing_in (find xid.now self.old.state.branches) ≡ standing.Idle }
+        ensures { self.new.state ≡ with_branch xid.now as_prepared self.old.state }
+    {
+        let _ = table::change_one(&mut self.branches, xid, Change::Prepare);
+    }
+
+    /// A branch ends; its intents. Takes no memory.
+    pub fn finish(&mut self, xid: &Xid) -> Intents
+        requires { is_some (find xid.now self.old.state.branches) ≡ true }
+        ensures intents { Some result.items ≡ option_map intents_of (find xid.now self.old.state.branches) }
+        ensures state { self.new.state ≡ finished xid.now self.old.state }
+    {
+        finish(&mut self.branches, &mut self.seats, xid)
+    }
+
+    /// Time has come so far: the unprepared branches that are due are marked. Takes no memory.
+    pub fn expire(&mut self, now: u64)
+        ensures { self.new.state ≡ expired_all now self.old.state }
+    {
+        table::change_all(&mut self.branches, Change::Expire { now });
+    }
+
+    /// A session ends: its branches are marked, and what it selected is forgotten. Takes no memory.
+    pub fn leave(&mut self, session: u64)
+        ensures { self.new.state ≡ left_all session self.old.state }
+    {
+        table::change_all(&mut self.branches, Change::Leave { session });
+        drop(self.seats.take(&session));
+    }
+
+    /// A copy, by its number, or a whole queue is gone: the intents on it are dropped, but for those of prepared branches.
+    /// Takes no memory.
+    pub fn gone(&mut self, queue: &Text, number: Option<u64>)
+        ensures { self.new.state ≡ gone_all queue.now number self.old.state }
+    {
+        table::change_all(&mut self.branches, Change::Gone { queue, number });
+        seats::turn_all(&mut self.seats, Turn::Gone { queue, number });
+    }
+
+    /// Takes the intents of a session's tx out. Takes no memory.
+    pub fn take_tx(&mut self, session: u64) -> Intents
+        requires { is_some (tx_in (seat_of session self.old.state)) ≡ true }
+        ensures intents { Some result.items ≡ tx_in (seat_of session self.old.state) }
+        ensures state { self.new.state ≡ with_seat session tx_emptied self.old.state }
+    {
+        match seats::take(&mut self.seats, self.alloc, session) {
+            Some(intents) => intents,
+            None => unreachable!(),
+        }
+    }
+
+    /// Begins a new branch for start.
+    fn start_new(&mut self, session: u64, xid: &Xid) -> Result<(), NoMemory>
+        requires { start_fault session xid.now self.old.state start.New ≡ None }
+        ensures state { OnOk result (self.new.state ≡ placed session xid.now self.old.state) }
+        ensures err { OnErr result (self.new.state ≡ self.old.state) }
+    {
+        self.branches.reserve(1)?;
+        ready(&mut self.slot, self.alloc)?;
+        let xid = xid.copied(self.alloc)?;
+        self.place(session, xid);
+        Ok(())
+    }
+
+    /// Joins a branch for start.
+    fn start_join(&mut self, session: u64, xid: &Xid) -> Result<(), NoMemory>
+        requires { start_fault session xid.now self.old.state start.Join ≡ None }
+        ensures state { OnOk result (self.new.state ≡ started start.Join session xid.now self.old.state) }
+        ensures err { OnErr result (self.new.state ≡ self.old.state) }
+        ensures ready { self.old.room.slot ≡ true → IsOk result }
+    {
+        if table::status(&self.branches, xid) != 0 {
+            return Ok(());
+        }
+        ready(&mut self.slot, self.alloc)?;
+        match self.slot.take() {
+            Some(slot) => join(&mut self.branches, &mut self.seats, session, xid, slot),
+            None => unreachable!(),
+        }
+        Ok(())
+    }
+
+    /// Resumes a branch for start.
+    fn start_resume(&mut self, session: u64, xid: &Xid)
+        requires { is_some (find xid.now self.old.state.branches) ≡ true }
+        ensures { self.new.state ≡ started start.Resume session xid.now self.old.state }
+    {
+        let place = table::place_of(&self.branches, xid);
+        seats::turn_one(&mut self.seats, session, Turn::Activate { place });
+    }
+
     /// Why dtx.select or tx.select is refused.
     fn select_fault(&self, session: u64, dtx: bool) -> Option<u16>
         ensures { result ≡ select_fault session dtx self.now.state }
@@ -189,6 +388,104 @@ impl Branches {
             None => false,
         }
     }
+}
+
+/// Makes room for one association.
+fn ready(slot: &mut Option<Slot>, alloc: Global) -> Result<(), NoMemory>
+    ensures ok { OnOk result (is_some slot.new ≡ true) }
+    ensures kept { is_some slot.old ≡ true → (is_some slot.new ≡ true) × IsOk result }
+{
+    if slot.is_none() {
+        *slot = Some(Slot::new(alloc)?);
+    }
+    Ok(())
+}
+
+/// A session begins a new branch.
+fn begin(
+    branches: &mut XidMap<Branch>,
+    seats: &mut SortedMap<u64, Seat>,
+    alloc: Global,
+    session: u64,
+    xid: Xid,
+    slot: Slot,
+)
+    requires new { find xid (branches_of branches.old.entries) ≡ None }
+    requires room { 0 < branches.old.room }
+    requires below { AllBelow (length branches.old.entries) (seats_of seats.old.entries) }
+    ensures state { state_of branches.new.entries seats.new.entries ≡ placed session xid (state_of branches.old.entries seats.old.entries) }
+    ensures below { AllBelow (length branches.new.entries) (seats_of seats.new.entries) }
+{
+    let place = table::begin(branches, alloc, session, xid, slot);
+    seats::turn_all(seats, Turn::Push { place });
+    seats::turn_one(seats, session, Turn::Activate { place });
+}
+
+/// A session joins a branch that it isn't associated with.
+fn join(
+    branches: &mut XidMap<Branch>,
+    seats: &mut SortedMap<u64, Seat>,
+    session: u64,
+    xid: &Xid,
+    slot: Slot,
+)
+    requires there { is_some (find xid.now (branches_of branches.old.entries)) ≡ true }
+    requires free { linked_in session (find xid.now (branches_of branches.old.entries)) ≡ false }
+    requires below { AllBelow (length branches.old.entries) (seats_of seats.old.entries) }
+    ensures state { state_of branches.new.entries seats.new.entries ≡ joined_in session xid.now (state_of branches.old.entries seats.old.entries) }
+    ensures below { AllBelow (length branches.new.entries) (seats_of seats.new.entries) }
+{
+    let place = table::place_of(branches, xid);
+    table::join(branches, xid, session, slot);
+    seats::turn_one(seats, session, Turn::Activate { place });
+}
+
+/// A session's association with a branch ends or is suspended; the mark that the branch has then, or 0.
+fn part(
+    branches: &mut XidMap<Branch>,
+    seats: &mut SortedMap<u64, Seat>,
+    session: u64,
+    xid: &Xid,
+    how: End,
+) -> Status
+    requires there { is_some (find xid.now (branches_of branches.old.entries)) ≡ true }
+    requires below { AllBelow (length branches.old.entries) (seats_of seats.old.entries) }
+    ensures status { result ≡ end_status how session (find xid.now (branches_of branches.old.entries)) }
+    ensures state { state_of branches.new.entries seats.new.entries ≡ ended how session xid.now (state_of branches.old.entries seats.old.entries) }
+    ensures below { AllBelow (length branches.new.entries) (seats_of seats.new.entries) }
+{
+    let place = table::place_of(branches, xid);
+    seats::turn_one(seats, session, Turn::Leave { place });
+    match how {
+        End::Suspend => table::status(branches, xid),
+        End::Success => {
+            let change = Change::Part {
+                session,
+                fails: false,
+            };
+            table::change_one(branches, xid, change)
+        }
+        End::Fail => {
+            let change = Change::Part {
+                session,
+                fails: true,
+            };
+            table::change_one(branches, xid, change)
+        }
+    }
+}
+
+/// Takes a branch out; its intents.
+fn finish(branches: &mut XidMap<Branch>, seats: &mut SortedMap<u64, Seat>, xid: &Xid) -> Intents
+    requires there { is_some (find xid.now (branches_of branches.old.entries)) ≡ true }
+    requires below { AllBelow (length branches.old.entries) (seats_of seats.old.entries) }
+    ensures intents { Some result.items ≡ option_map intents_of (find xid.now (branches_of branches.old.entries)) }
+    ensures state { state_of branches.new.entries seats.new.entries ≡ finished xid.now (state_of branches.old.entries seats.old.entries) }
+    ensures below { AllBelow (length branches.new.entries) (seats_of seats.new.entries) }
+{
+    let (place, intents) = table::finish(branches, xid);
+    seats::turn_all(seats, Turn::Pull { place });
+    intents
 }
 
 /// Whether resume finds no association, or join finds one.

@@ -170,6 +170,8 @@ pub(crate) fn begin(
     requires new { find xid (branches_of branches.old.entries) ≡ None }
     requires room { 0 < branches.old.room }
     ensures branches { branches_of branches.new.entries ≡ put xid (fresh session) (branches_of branches.old.entries) }
+    ensures len { length branches.new.entries ≡ length branches.old.entries + 1 }
+    ensures bound { result ≤ length branches.old.entries }
     ensures place { result ≡ index_of xid_order xid (branches_of branches.old.entries) }
 {
     branches.put(xid, Branch::new(alloc, session, slot))
@@ -181,6 +183,7 @@ pub(crate) fn finish(branches: &mut XidMap<Branch>, xid: &Xid) -> (usize, Intent
     ensures branches { branches_of branches.new.entries ≡ out xid.now (branches_of branches.old.entries) }
     ensures place { result.0 ≡ index_of xid_order xid.now (branches_of branches.old.entries) }
     ensures bound { result.0 < length branches.old.entries }
+    ensures len { length branches.new.entries + 1 ≡ length branches.old.entries }
     ensures intents { Some result.1.items ≡ option_map intents_of (find xid.now (branches_of branches.old.entries)) }
 {
     let place = place_of(branches, xid);

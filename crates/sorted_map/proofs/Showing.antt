@@ -137,3 +137,15 @@ module _ {K T : Type 0} where
 -- what is seen alike is seen as it was
 pub seen_same : {K T U : Type 0} (look : T → U) (es : List (K × T)) (i : ℕ) (old new : T) → value_at es i ≡ Some old → look new ≡ look old → seen look (with_value es i new) ≡ seen look es
 seen_same look es i old new at is = seen_change look (λ u. u) es i old new at is ∙ same_at i (seen look es)
+
+module _ {K T : Type 0} where
+  pub length_changed_at : (i : ℕ) (change : T → T) (es : List (K × T)) → length (changed_at i change es) ≡ length es
+  length_changed_at i change [] = refl
+  length_changed_at zero change (e ∷ es) = refl
+  length_changed_at (suc i) change (e ∷ es) = ap suc (length_changed_at i change es)
+
+  pub length_changed : (cmp : K → K → Ordering) (key : K) (change : T → T) (es : List (K × T)) → length (changed cmp key change es) ≡ length es
+  length_changed cmp key change es = go (find cmp key es) where
+    go : (o : Option T) → length (changed_if o (index_of cmp key es) change es) ≡ length es
+    go None = refl
+    go (Some t) = length_changed_at (index_of cmp key es) change es

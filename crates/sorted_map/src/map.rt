@@ -1,5 +1,5 @@
 //! The map.
-ghost use Rattle.std.specs.Prelude.{◌≡◌, ◌+◌, ◌<◌, ◌≤◌, [], length, None, Some, OnOk, IsOk, IfSome, IfNone};
+ghost use Rattle.std.specs.Prelude.{◌≡◌, ◌+◌, ◌<◌, ◌≤◌, [], length, None, Some, OnOk, IsOk, OnSome, IfSome, IfNone};
 ghost use Rattle.std.specs.List.Sorted.{IsStrictlySortedBy};
 ghost use Rattle.std.specs.Option.{option_copied};
 ghost use Rattle.std.specs.Ordering.{is_lt, is_le};
@@ -124,6 +124,8 @@ impl<K: Ord, T> SortedMap<K, T> {
         requires room { 0 < self.old.room }
         ensures entries { self.new.entries ≡ put K.cmp key value self.old.entries }
         ensures index { result ≡ index_of K.cmp key self.old.entries }
+        ensures bound { result ≤ length self.old.entries }
+        ensures len { length self.new.entries ≡ length self.old.entries + 1 }
         ensures room { self.new.room + 1 ≡ self.old.room }
     {
         let (low, _) = part(self.entries.as_slice(), &key);
@@ -140,6 +142,7 @@ impl<K: Ord, T> SortedMap<K, T> {
         ensures some { IfSome result (λ entry. (K.cmp entry.0 key.now ≡ Equal) × (find K.cmp key.now self.old.entries ≡ Some entry.1)) }
         ensures none { IfNone result (find K.cmp key.now self.old.entries ≡ None) }
         ensures gone { find K.cmp key.now self.new.entries ≡ None }
+        ensures len { OnSome result (length self.new.entries + 1 ≡ length self.old.entries) }
         ensures room { self.old.room ≤ self.new.room }
     {
         let (low, high) = part(self.entries.as_slice(), key);

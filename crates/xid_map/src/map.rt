@@ -1,5 +1,5 @@
 //! The map.
-ghost use Rattle.std.specs.Prelude.{◌≡◌, ◌+◌, ◌<◌, ◌≤◌, [], length, slice_index_or, None, Some, OnOk, IsOk, IfSome, IfNone};
+ghost use Rattle.std.specs.Prelude.{◌≡◌, ◌+◌, ◌<◌, ◌≤◌, [], length, slice_index_or, None, Some, OnOk, IsOk, OnSome, IfSome, IfNone};
 ghost use Rattle.std.specs.List.Sorted.{IsStrictlySortedBy};
 ghost use Rattle.std.specs.Option.{option_copied};
 ghost use Rattle.std.specs.Ordering.{is_lt, is_le};
@@ -138,6 +138,8 @@ impl<T> XidMap<T> {
         requires room { 0 < self.old.room }
         ensures entries { self.new.entries ≡ put xid value self.old.entries }
         ensures index { result ≡ index_of xid_order xid self.old.entries }
+        ensures bound { result ≤ length self.old.entries }
+        ensures len { length self.new.entries ≡ length self.old.entries + 1 }
         ensures room { self.new.room + 1 ≡ self.old.room }
     {
         let (low, _) = part(self.entries.as_slice(), &xid);
@@ -154,6 +156,7 @@ impl<T> XidMap<T> {
         ensures some { IfSome result (λ entry. (entry.0 ≡ xid.now) × (find xid.now self.old.entries ≡ Some entry.1)) }
         ensures none { IfNone result (find xid.now self.old.entries ≡ None) }
         ensures gone { find xid.now self.new.entries ≡ None }
+        ensures len { OnSome result (length self.new.entries + 1 ≡ length self.old.entries) }
         ensures room { self.old.room ≤ self.new.room }
     {
         let (low, high) = part(self.entries.as_slice(), xid);

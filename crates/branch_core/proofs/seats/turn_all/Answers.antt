@@ -1,9 +1,8 @@
 -- One after another is changed.
-use Rattle.std.proofs.Common.{◌≡◌, ◌∙◌, length, ap, sym, arith}
+use Rattle.std.proofs.Common.{◌∙◌, length, ap, sym, arith}
 use Rattle.sorted_map.specs.Map.{changed_at}
 use Rattle.sorted_map.proofs.Showing.{seen_length, seen_change, changed_one, changed_all, changed_length}
-use Rattle.branch_core.specs.Held.{held, changed_by}
-use Rattle.branch_core.specs.State.{seated, seats_of, branches_of}
+use Rattle.branch_core.specs.State.{seated, seats_of}
 use Rattle.branch_core.specs.Acts.{turned}
 use Rattle.branch_core.proofs.seats.turn_all.Goals as goal
 

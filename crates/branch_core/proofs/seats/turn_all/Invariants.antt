@@ -1,8 +1,7 @@
 -- Those below the index are changed.
 use Rattle.std.proofs.Common.{◌≡◌, length}
 use Rattle.sorted_map.proofs.Showing.{changed_below}
-use Rattle.branch_core.specs.Held.{changed_by}
-use Rattle.branch_core.specs.State.{seats_of, branches_of}
+use Rattle.branch_core.specs.State.{seats_of}
 use Rattle.branch_core.specs.Acts.{turned}
 use Rattle.branch_core.proofs.seats.turn_all.Given as goal
 

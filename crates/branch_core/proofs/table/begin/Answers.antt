@@ -1,12 +1,8 @@
 -- The branch is put in.
-use Rattle.std.proofs.Common.{◌≡◌, ◌<◌, ◌∙◌, List, length, Option, None, Some, is_some, true, ap, sym, refl}
-use Rattle.std.proofs.lemmas.Bool.{true≢false}
-use Rattle.std.specs.Option.{option_map}
-use Rattle.sorted_map.proofs.Showing.{seen_find, seen_put, seen_out, seen_index}
-use Rattle.sorted_map.specs.Map.{index_of}
-use Rattle.xid_map.specs.Xids.{xid_order, find, put}
-use Rattle.branch_core.specs.declared.branch.Branch.{Branch}
-use Rattle.branch_core.specs.Held.{Held, held, fresh, intents_of}
+use Rattle.std.proofs.Common.{◌∙◌, ap, sym}
+use Rattle.sorted_map.proofs.Showing.{seen_put, seen_index}
+use Rattle.xid_map.specs.Xids.{xid_order, put}
+use Rattle.branch_core.specs.Held.{Held, held}
 use Rattle.branch_core.specs.State.{branches_of}
 use Rattle.branch_core.proofs.Finding.{not_found}
 use Rattle.branch_core.proofs.table.begin.Goals as goal

@@ -1,10 +1,9 @@
 -- One after another is changed.
-use Rattle.std.proofs.Common.{◌≡◌, ◌∙◌, length, ap, sym, arith}
+use Rattle.std.proofs.Common.{◌∙◌, length, ap, sym, arith}
 use Rattle.sorted_map.specs.Map.{changed_at}
 use Rattle.sorted_map.proofs.Showing.{seen_length, seen_change, changed_one, changed_all, changed_length}
 use Rattle.branch_core.specs.Held.{held, changed_by}
-use Rattle.branch_core.specs.State.{seated, seats_of, branches_of}
-use Rattle.branch_core.specs.Acts.{turned}
+use Rattle.branch_core.specs.State.{branches_of}
 use Rattle.branch_core.proofs.table.change_all.Goals as goal
 
 pub value_mut-requires : goal.value_mut-requires

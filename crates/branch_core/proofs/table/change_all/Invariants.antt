@@ -2,8 +2,7 @@
 use Rattle.std.proofs.Common.{◌≡◌, length}
 use Rattle.sorted_map.proofs.Showing.{changed_below}
 use Rattle.branch_core.specs.Held.{changed_by}
-use Rattle.branch_core.specs.State.{seats_of, branches_of}
-use Rattle.branch_core.specs.Acts.{turned}
+use Rattle.branch_core.specs.State.{branches_of}
 use Rattle.branch_core.proofs.table.change_all.Given as goal
 
 abbrev pub invariant-loop-index : goal.invariant-loop-index

@@ -1,14 +1,11 @@
 -- The branch is taken out.
-use Rattle.std.proofs.Common.{◌≡◌, ◌<◌, ◌∙◌, List, length, Option, None, Some, is_some, true, ap, sym, refl}
-use Rattle.std.proofs.lemmas.Bool.{true≢false}
+use Rattle.std.proofs.Common.{◌∙◌, Some, ap, sym}
 use Rattle.std.specs.Option.{option_map}
-use Rattle.sorted_map.proofs.Showing.{seen_find, seen_put, seen_out, seen_index}
-use Rattle.sorted_map.specs.Map.{index_of}
-use Rattle.xid_map.specs.Xids.{xid_order, find, put}
-use Rattle.branch_core.specs.declared.branch.Branch.{Branch}
-use Rattle.branch_core.specs.Held.{Held, held, fresh, intents_of}
+use Rattle.sorted_map.proofs.Showing.{seen_find, seen_out}
+use Rattle.xid_map.specs.Xids.{xid_order}
+use Rattle.branch_core.specs.Held.{held, intents_of}
 use Rattle.branch_core.specs.State.{branches_of}
-use Rattle.branch_core.proofs.Finding.{is_found, not_found}
+use Rattle.branch_core.proofs.Finding.{is_found}
 use Rattle.branch_core.proofs.table.finish.Goals as goal
 
 pub unreachable-requires : goal.unreachable-requires

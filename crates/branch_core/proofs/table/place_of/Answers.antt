@@ -1,14 +1,9 @@
 -- The place is the same among what is seen.
-use Rattle.std.proofs.Common.{◌≡◌, ◌<◌, ◌∙◌, List, length, Option, None, Some, is_some, true, ap, sym, refl}
-use Rattle.std.proofs.lemmas.Bool.{true≢false}
-use Rattle.std.specs.Option.{option_map}
-use Rattle.sorted_map.proofs.Showing.{seen_find, seen_put, seen_out, seen_index}
-use Rattle.sorted_map.specs.Map.{index_of}
-use Rattle.xid_map.specs.Xids.{xid_order, find, put}
-use Rattle.branch_core.specs.declared.branch.Branch.{Branch}
-use Rattle.branch_core.specs.Held.{Held, held, fresh, intents_of}
-use Rattle.branch_core.specs.State.{branches_of}
-use Rattle.branch_core.proofs.Finding.{is_found, not_found}
+use Rattle.std.proofs.Common.{◌∙◌, sym}
+use Rattle.sorted_map.proofs.Showing.{seen_index}
+use Rattle.xid_map.specs.Xids.{xid_order}
+use Rattle.branch_core.specs.Held.{held}
+use Rattle.branch_core.proofs.Finding.{is_found}
 use Rattle.branch_core.proofs.table.place_of.Goals as goal
 
 pub unreachable-requires : goal.unreachable-requires

@@ -1,10 +1,10 @@
 -- Room alone is written.
-use Rattle.std.proofs.Common.{◌≡◌, ◌≤◌, ◌∙◌, ℕ, OnOk, refl, sym, ap, subst}
+use Rattle.std.proofs.Common.{◌≤◌, ◌∙◌, ℕ, OnOk, sym, ap, subst}
 use Rattle.std.specs.Option.{option_map}
 use Rattle.sorted_map.specs.Map.{with_value}
 use Rattle.sorted_map.proofs.Showing.{seen_same, seen_value, value_with}
 use Rattle.branch_core.specs.declared.branch.Branch.{Branch}
-use Rattle.branch_core.specs.Held.{Held, held}
+use Rattle.branch_core.specs.Held.{held}
 use Rattle.branch_core.specs.State.{room_in}
 use Rattle.branch_core.proofs.table.reserve.Goals as goal
 

@@ -1,7 +1,5 @@
 -- Each session is active at a place where a branch is.
-use Rattle.std.proofs.Common.{◌≡◌, ◌<◌, ◌∙◌, length, Some, ap, sym, subst}
-use Rattle.std.specs.Ordering.{nat_cmp}
-use Rattle.sorted_map.specs.Map.{find}
+use Rattle.std.proofs.Common.{◌<◌, ◌∙◌, length, sym, subst}
 use Rattle.sorted_map.proofs.Showing.{seen_length}
 use Rattle.branch_core.specs.Held.{held}
 use Rattle.branch_core.specs.State.{Branched, seats_of}
