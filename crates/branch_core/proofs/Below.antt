@@ -7,9 +7,9 @@ use Rattle.sorted_map.specs.Map.{from_key, first_of, find, put, out, index_of, c
 use Rattle.sorted_map.proofs.Showing.{seen_length}
 use Rattle.amqp_values.specs.declared.value.Xid.{Xid}
 use Rattle.branch_core.specs.declared.branch.Branch.{Branch}
-use Rattle.branch_core.specs.Held.{held}
-use Rattle.branch_core.specs.State.{branches_of, Seated, AllBelow, below_in, active_in}
-use Rattle.branch_core.specs.Acts.{activate, left, left_by, pushed, pushed_by, up, pulled, pulled_by}
+use Rattle.branch_core.specs.Held.{Held, held}
+use Rattle.branch_core.specs.State.{State, branches_of, Seated, AllBelow, below_in, active_in}
+use Rattle.branch_core.specs.Acts.{selecting, seat_changed_if, empty_seat, activate, left, left_by, pushed, pushed_by, up, pulled, pulled_by}
 
 -- who is found is active below
 pub found_below : (count session place : ℕ) (es : List (ℕ × Seated)) → AllBelow count es → active_in (find nat_cmp session es) ≡ Some place → place < count
@@ -109,3 +109,16 @@ below_pulled count after place len lt t b = go t.active b where
 
 pub same_count : (old new : List (Xid × Branch)) → length (branches_of new) ≡ length (branches_of old) → length new ≡ length old
 same_count old new e = sym (seen_length held new) ∙ (e ∙ seen_length held old)
+
+pub below_selecting : (count session : ℕ) (dtx : Bool) (o : Option Seated) (es : List (ℕ × Seated)) → AllBelow count es → AllBelow count (seat_changed_if o session (selecting dtx) es)
+below_selecting count session dtx None es a = below_put count session (selecting dtx empty_seat) es (keeps dtx empty_seat tt) a where
+  keeps : (dtx : Bool) (t : Seated) → below_in count t.active → below_in count (selecting dtx t).active
+  keeps true t b = b
+  keeps false t b = b
+below_selecting count session dtx (Some t) es a = below_changed count (selecting dtx) (keeps dtx) session es a where
+  keeps : (dtx : Bool) (t : Seated) → below_in count t.active → below_in count (selecting dtx t).active
+  keeps true t b = b
+  keeps false t b = b
+
+pub state_is : {a b : List (Xid × Held)} {c d : List (ℕ × Seated)} → a ≡ b → c ≡ d → ◌≡◌ {A = State} (record { branches = a; seats = c }) (record { branches = b; seats = d })
+state_is {a} {b} {c} {d} p q = ap (λ (x : List (Xid × Held)). record { branches = x; seats = c }) p ∙ ap (λ (y : List (ℕ × Seated)). record { branches = b; seats = y }) q

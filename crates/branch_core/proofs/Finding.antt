@@ -1,5 +1,5 @@
 -- What is found among what is seen.
-use Rattle.std.proofs.Common.{◌≡◌, ◌∙◌, List, Option, None, Some, true, false, is_some, sym, ap, refl}
+use Rattle.std.proofs.Common.{◌≡◌, ◌∙◌, List, Option, None, Some, true, is_some, sym, ap, refl}
 use Rattle.std.proofs.lemmas.Bool.{true≢false}
 use Rattle.std.specs.Option.{option_map}
 use Rattle.amqp_values.specs.declared.value.Xid.{Xid}

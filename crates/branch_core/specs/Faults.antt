@@ -1,5 +1,5 @@
 -- The first condition of a command that holds; its code.
-use Rattle.std.specs.Prelude.{◌≡◌, ℕ, zero, suc, ◌==◌, ◌&&◌, ◌||◌, nat_le, nat_eq, not, Bool, true, false, if◌then◌else◌, List, [], ◌∷◌, length, Option, None, Some, is_some}
+use Rattle.std.specs.Prelude.{◌≡◌, ℕ, zero, suc, ◌==◌, ◌&&◌, nat_le, not, Bool, true, false, if◌then◌else◌, List, [], ◌∷◌, length, Option, None, Some, is_some}
 use Rattle.amqp_values.specs.declared.value.Xid.{Xid}
 use Rattle.number_tree.specs.Numbers.{has}
 use Rattle.sorted_map.specs.Map.{index_of}

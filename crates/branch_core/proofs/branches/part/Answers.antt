@@ -1,13 +1,10 @@
 -- As many branches, and a session active at one less.
-use Rattle.std.proofs.Common.{◌≡◌, ◌<◌, ◌+◌, ◌∙◌, ℕ, List, length, ap, sym, subst, arith}
-use Rattle.std.specs.Ordering.{nat_cmp}
-use Rattle.sorted_map.specs.Map.{seen, changed}
-use Rattle.sorted_map.proofs.Showing.{seen_length, length_changed}
+use Rattle.std.proofs.Common.{◌∙◌, ℕ, length, ap, sym, subst}
+use Rattle.sorted_map.proofs.Showing.{length_changed}
 use Rattle.xid_map.specs.Xids.{xid_order}
-use Rattle.branch_core.specs.Held.{held, joined, parted, changed_by}
-use Rattle.branch_core.specs.State.{Seated, AllBelow, branches_of, seats_of}
-use Rattle.branch_core.specs.Acts.{activate, left, pushed, pulled, turned}
-use Rattle.branch_core.proofs.Below.{below_seen, below_changed, below_activate, below_left, below_pushed, below_pulled, same_count}
+use Rattle.branch_core.specs.State.{AllBelow, branches_of, seats_of}
+use Rattle.branch_core.specs.Acts.{left}
+use Rattle.branch_core.proofs.Below.{below_changed, below_left, same_count}
 use Rattle.branch_core.proofs.branches.part.Goals as goal
 
 pub returns-in-Suspend-clause-below : goal.returns-in-Suspend-clause-below
