@@ -2,8 +2,6 @@
 use Rattle.std.specs.Prelude.{ℕ, zero, suc, ◌+◌, ◌-◌, ◌&&◌, position, ◌^◌, nat_lt, ◌==◌, Bool, true, false, if◌then◌else◌, List, [], ◌∷◌, ◌++◌, map, filter, Option, None, Some}
 use Rattle.std.specs.Option.{option_map}
 use Rattle.std.specs.Ordering.{nat_cmp}
-use Rattle.std.specs.List.{list_any}
-use Rattle.branch_intents.specs.Intents.{names}
 use Rattle.amqp_values.specs.declared.value.Xid.{Xid}
 use Rattle.branch_intents.specs.declared.intents.Intent.{Intent}
 use Rattle.sorted_map.specs.Map.{index_of, changed, changed_at, seen, value_at}
@@ -17,7 +15,7 @@ use Rattle.branch_core.specs.declared.marks.End.{End}
 use Rattle.branch_core.specs.declared.marks.End.TheVariants as end
 use Rattle.branch_core.specs.declared.marks.Owner.{Owner}
 use Rattle.branch_core.specs.declared.marks.Owner.TheVariants as owner
-use Rattle.branch_core.specs.Held.{Held, fresh, joined, parted, given, without_intents, left_in, expired_in, gone_in, intents_of, emptied, is_undone}
+use Rattle.branch_core.specs.Held.{Held, fresh, joined, parted, given, without_intents, left_in, expired_in, gone_in, intents_of, emptied, is_undone, names_queue}
 use Rattle.branch_core.specs.State.{State, Seated, seat_of, owner_of}
 use Rattle.branch_core.specs.Faults.{status_in}
 
@@ -174,9 +172,12 @@ expired_all now s = record s { branches = seen (expired_in now) s.branches }
 abbrev pub gone_all : List ℕ → Option ℕ → State → State
 gone_all queue number s = record { branches = seen (gone_in queue number) s.branches; seats = seen (seat_without queue number) s.seats }
 
+abbrev pub is_undone_at : Xid × Held → Bool
+is_undone_at e = is_undone e.1
+
 -- the place of the first branch that is marked and has intents
 abbrev pub undo_place : State → Option ℕ
-undo_place s = position (λ e. is_undone e.1) s.branches
+undo_place s = position is_undone_at s.branches
 
 abbrev undone_by : Option ℕ → State → State
 undone_by None s = s
@@ -203,5 +204,5 @@ abbrev pub prepared_xids : List (Xid × Held) → List Xid
 prepared_xids branches = map (λ e. e.0) (filter (λ e. e.1.prepared) branches)
 
 -- a prepared branch names the queue
-abbrev pub names_queue : List ℕ → Held → Bool
-names_queue queue h = h.prepared && list_any (names queue) h.intents
+abbrev pub names_at : List ℕ → Xid × Held → Bool
+names_at queue e = names_queue queue e.1

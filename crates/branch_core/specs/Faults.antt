@@ -1,5 +1,5 @@
 -- The first condition of a command that holds; its code.
-use Rattle.std.specs.Prelude.{◌≡◌, ℕ, zero, suc, ◌==◌, ◌&&◌, nat_le, not, Bool, true, false, if◌then◌else◌, List, [], ◌∷◌, length, Option, None, Some, is_some}
+use Rattle.std.specs.Prelude.{◌≡◌, ℕ, zero, suc, ◌==◌, ◌&&◌, nat_le, not, eqb, Bool, true, false, if◌then◌else◌, List, [], ◌∷◌, length, Option, None, Some, is_some}
 use Rattle.amqp_values.specs.declared.value.Xid.{Xid}
 use Rattle.number_tree.specs.Numbers.{has}
 use Rattle.sorted_map.specs.Map.{index_of}
@@ -126,7 +126,7 @@ module _ (xid : Xid) (s : State) where
       first_of
       ((not (is_some (find xid s.branches)), 404)
       ∷ (associated_in (find xid s.branches), 409)
-      ∷ ((if one_phase then prepared_in (find xid s.branches) else not (prepared_in (find xid s.branches))), 409)
+      ∷ (eqb (prepared_in (find xid s.branches)) one_phase, 409)
       ∷ [])
 
   abbrev pub rollback_fault : Option ℕ

@@ -1,7 +1,8 @@
 -- A branch, and what is done to it.
 use Rattle.std.specs.Prelude.{ℕ, ◌+◌, ◌^◌, ◌==◌, ◌&&◌, nat_le, nat_lt, not, Bool, true, false, if◌then◌else◌, List, [], ◌∷◌, ◌++◌, filter, Option, None, Some}
 use Rattle.branch_intents.specs.declared.intents.Intent.{Intent}
-use Rattle.branch_intents.specs.Intents.{is_on}
+use Rattle.std.specs.List.{list_any}
+use Rattle.branch_intents.specs.Intents.{names, is_on}
 use Rattle.number_tree.specs.Numbers.{has, with_number, without}
 use Rattle.branch_core.specs.declared.branch.Branch.{Branch}
 use Rattle.branch_core.specs.declared.branch.Change.{Change}
@@ -64,12 +65,16 @@ abbrev pub emptied : Held → Held
 emptied h = record h { intents = [] }
 
 -- it is marked, and its intents are to be undone
-abbrev is_any : List Intent → Bool
+abbrev pub is_any : List Intent → Bool
 is_any [] = false
 is_any (i ∷ is) = true
 
 abbrev pub is_undone : Held → Bool
 is_undone h = not (h.status == 0) && is_any h.intents
+
+-- a prepared branch names the queue
+abbrev pub names_queue : List ℕ → Held → Bool
+names_queue queue h = h.prepared && list_any (names queue) h.intents
 
 -- the session ends: its branch is marked
 abbrev pub left_in : ℕ → Held → Held

@@ -84,6 +84,12 @@ owner_by None None = owner.Now
 abbrev pub owner_of : ℕ → State → Owner
 owner_of session s = owner_by (tx_in (seat_of session s)) (active_in (seat_of session s))
 
+-- they don't act at once
+abbrev pub IsOwned : Owner → Type 0
+IsOwned owner.Now = ⊥
+IsOwned owner.Tx = Unit {0}
+IsOwned (owner.Branch place) = Unit {0}
+
 -- a place is that of a branch
 abbrev pub IsBelow : ℕ → Owner → Type 0
 IsBelow count owner.Now = Unit {0}

@@ -1,7 +1,7 @@
 //! One branch.
 ghost use Rattle.std.specs.Prelude.{◌≡◌, ◌≤◌, ◌<◌, ◌+◌, ◌++◌, ◌∷◌, false, []};
 ghost use Rattle.number_tree.specs.Numbers.{has};
-ghost use Rattle.branch_core.specs.Held.{held, fresh, joined, marked, parted, is_due, deadline_of, given, changed_by};
+ghost use Rattle.branch_core.specs.Held.{held, fresh, joined, marked, parted, is_due, deadline_of, given, emptied, is_undone, names_queue, changed_by};
 
 use crate::marks::Status;
 use branch_intents::{Intent, Intents};
@@ -149,5 +149,26 @@ impl Branch {
         ensures room { self.new.intents.room + 1 ≡ self.old.intents.room }
     {
         self.intents.put(intent);
+    }
+
+    pub(crate) fn take(&mut self, alloc: Global) -> Intents
+        ensures intents { result.items ≡ (held self.old).intents }
+        ensures held { held self.new ≡ emptied (held self.old) }
+    {
+        self.intents.take(alloc)
+    }
+
+    /// Whether it is marked and has intents.
+    pub(crate) fn is_undone(&self) -> bool
+        ensures { result ≡ is_undone (held self.now) }
+    {
+        self.status != 0 && !self.intents.as_slice().is_empty()
+    }
+
+    /// Whether it is prepared and names a queue.
+    pub(crate) fn names(&self, queue: &Text) -> bool
+        ensures { result ≡ names_queue queue.now (held self.now) }
+    {
+        self.prepared && self.intents.names(queue)
     }
 }

@@ -1,17 +1,18 @@
 //! The branches.
-ghost use Rattle.std.specs.Prelude.{◌≡◌, ◌≤◌, ◌<◌, ◌+◌, ◌∷◌, [], None, Some, IfSome, IfNone, IfOk, IfErr, OnOk, OnErr, IsOk, length, map, filter, is_some, true, false};
+ghost use Rattle.std.specs.Prelude.{◌≡◌, ℕ, ◌≤◌, ◌<◌, ◌+◌, ◌∷◌, [], None, Some, IfSome, IfNone, IfOk, IfErr, OnOk, OnErr, IsOk, length, map, filter, is_some, true, false};
 ghost use Rattle.std.specs.Option.{option_map};
+ghost use Rattle.std.specs.List.{list_any};
 
 
 
 ghost use Rattle.xid_map.specs.Xids.{xid_order, find};
-ghost use Rattle.sorted_map.specs.Map.{index_of, value_at, changed_at};
+ghost use Rattle.sorted_map.specs.Map.{index_of, key_at, value_at, changed_at};
 ghost use Rattle.branch_core.specs.Held.{intents_of, timed, as_prepared};
 ghost use Rattle.branch_core.specs.declared.marks.Start.TheVariants as start;
 ghost use Rattle.branch_core.specs.declared.marks.Standing.TheVariants as standing;
-ghost use Rattle.branch_core.specs.State.{seat_of, dtx_in, tx_in, active_in, owner_of, IsBelow, AllBelow, HasRoom, branches_of, seats_of, state_of};
-ghost use Rattle.branch_core.specs.Faults.{Tells, IsRefusal, is_new, status_in, standing_in, associated_in, linked_in, is_unfit, is_at, start_fault, end_fault, timeout_fault, select_fault};
-ghost use Rattle.branch_core.specs.Acts.{start_status, started, placed, joined_in, ended, end_status, selected, finished, with_branch, with_seat, tx_emptied, left_all, expired_all, gone_all, seconds_of};
+ghost use Rattle.branch_core.specs.State.{seat_of, dtx_in, tx_in, active_in, owner_of, IsOwned, IsBelow, AllBelow, Fits, HasRoom, branches_of, seats_of, state_of};
+ghost use Rattle.branch_core.specs.Faults.{Tells, IsRefusal, is_new, status_in, standing_in, linked_in, is_unfit, is_at, start_fault, end_fault, prepare_fault, commit_fault, rollback_fault, timeout_fault, select_fault};
+ghost use Rattle.branch_core.specs.Acts.{start_status, started, placed, joined_in, ended, end_status, selected, finished, with_branch, with_seat, tx_emptied, left_all, expired_all, gone_all, seconds_of, undone, undo_intents, added, prepared_xids, names_at};
 
 use crate::branch::{Branch, Change};
 use crate::marks::{BranchFault, End, Owner, Standing, Start, Status, Xids};
@@ -274,6 +275,133 @@ impl Branches {
         match seats::take(&mut self.seats, self.alloc, session) {
             Some(intents) => intents,
             None => unreachable!(),
+        }
+    }
+
+    /// What will be done once a branch is prepared, as a copy. Refused where it isn't there, is associated or is prepared.
+    pub fn prepare_plan(&self, xid: &Xid) -> Result<Intents, BranchFault>
+        ensures fine { OnOk result (prepare_fault xid.now self.now.state ≡ None) }
+        ensures intents { IfOk result (λ intents. Some intents.items ≡ option_map intents_of (find xid.now self.now.state.branches)) }
+        ensures fault { IfErr result (λ fault. Tells fault (prepare_fault xid.now self.now.state)) }
+    {
+        if !table::is_there(&self.branches, xid) {
+            return Err(BranchFault::Refused(404));
+        }
+        if table::is_associated(&self.branches, xid) {
+            return Err(BranchFault::Refused(409));
+        }
+        if table::is_prepared(&self.branches, xid) {
+            return Err(BranchFault::Refused(409));
+        }
+        Ok(table::intents(&self.branches, self.alloc, xid)?)
+    }
+
+    /// What a commit does, as a copy. Refused where the branch isn't there or is associated; where it is prepared and one
+    /// phase is asked, or isn't and two are.
+    pub fn commit_plan(&self, xid: &Xid, one_phase: bool) -> Result<Intents, BranchFault>
+        ensures fine { OnOk result (commit_fault xid.now self.now.state one_phase ≡ None) }
+        ensures intents { IfOk result (λ intents. Some intents.items ≡ option_map intents_of (find xid.now self.now.state.branches)) }
+        ensures fault { IfErr result (λ fault. Tells fault (commit_fault xid.now self.now.state one_phase)) }
+    {
+        if !table::is_there(&self.branches, xid) {
+            return Err(BranchFault::Refused(404));
+        }
+        if table::is_associated(&self.branches, xid) {
+            return Err(BranchFault::Refused(409));
+        }
+        if table::is_prepared(&self.branches, xid) == one_phase {
+            return Err(BranchFault::Refused(409));
+        }
+        Ok(table::intents(&self.branches, self.alloc, xid)?)
+    }
+
+    /// What a rollback drops, as a copy. Refused where the branch isn't there or is associated.
+    pub fn rollback_plan(&self, xid: &Xid) -> Result<Intents, BranchFault>
+        ensures fine { OnOk result (rollback_fault xid.now self.now.state ≡ None) }
+        ensures intents { IfOk result (λ intents. Some intents.items ≡ option_map intents_of (find xid.now self.now.state.branches)) }
+        ensures fault { IfErr result (λ fault. Tells fault (rollback_fault xid.now self.now.state)) }
+    {
+        if !table::is_there(&self.branches, xid) {
+            return Err(BranchFault::Refused(404));
+        }
+        if table::is_associated(&self.branches, xid) {
+            return Err(BranchFault::Refused(409));
+        }
+        Ok(table::intents(&self.branches, self.alloc, xid)?)
+    }
+
+    /// The names of the prepared branches, in order.
+    pub fn list(&self) -> Result<Xids, NoMemory>
+        ensures { IfOk result (λ xids. xids.items ≡ prepared_xids self.now.state.branches) }
+    {
+        table::prepared(self.branches.entries(), self.alloc)
+    }
+
+    /// Whether a prepared branch names a queue. Takes no memory.
+    pub fn names(&self, queue: &Text) -> bool
+        ensures { result ≡ list_any (names_at queue.now) self.now.state.branches }
+    {
+        table::names(self.branches.entries(), queue)
+    }
+
+    /// The name of the branch at a place in order of xid, counted from 0. Takes no memory.
+    pub fn xid_at(&self, place: usize) -> &Xid
+        requires { place < length self.now.state.branches }
+        ensures { key_at self.now.state.branches place ≡ Some result.now }
+    {
+        &self.branches.entries()[place].0
+    }
+
+    /// What the branch at a place will do. Takes no memory.
+    pub fn intents_at(&self, place: usize) -> &Intents
+        requires { place < length self.now.state.branches }
+        ensures { option_map intents_of (value_at self.now.state.branches place) ≡ Some result.now.items }
+    {
+        &self.branches.entries()[place].1.intents
+    }
+
+    /// Empties the first marked branch, in order of xid, that has intents, and gives them; none where no marked branch has
+    /// any. Takes no memory.
+    pub fn undo(&mut self) -> Option<Intents>
+        ensures intents { option_map (λ i. i.items) result ≡ undo_intents self.old.state }
+        ensures state { self.new.state ≡ undone self.old.state }
+    {
+        match table::undone(self.branches.entries()) {
+            Some(place) => Some(table::take(&mut self.branches, self.alloc, place)),
+            None => None,
+        }
+    }
+
+    /// Makes room for so many intents where those of a session go, for one branch, and for one selection and one association
+    /// of it. Nothing else changes.
+    pub fn room(&mut self, session: u64, intents: usize) -> Result<(), NoMemory>
+        ensures state { self.new.state ≡ self.old.state }
+        ensures ok { OnOk result (HasRoom session intents self.new) }
+        ensures branches { self.old.room.branches ≤ self.new.room.branches }
+        ensures seats { self.old.room.seats ≤ self.new.room.seats }
+        ensures slot { self.old.room.slot ≡ true → self.new.room.slot ≡ true }
+    {
+        self.branches.reserve(1)?;
+        self.seats.reserve(1)?;
+        ready(&mut self.slot, self.alloc)?;
+        match self.owner(session) {
+            Owner::Now => Ok(()),
+            Owner::Tx => seats::reserve(&mut self.seats, session, intents),
+            Owner::Branch { place } => table::reserve(&mut self.branches, place, intents),
+        }
+    }
+
+    /// An intent more, which comes last, for a session whose publishes and accepts don't act at once. Takes no memory.
+    pub fn add(&mut self, session: u64, intent: Intent)
+        requires owner { IsOwned (owner_of session self.old.state) }
+        requires room { Fits session 1 self.old }
+        ensures state { self.new.state ≡ added intent session self.old.state }
+        ensures room { (n : ℕ) → Fits session (n + 1) self.old → Fits session n self.new }
+    {
+        match self.owner(session) {
+            Owner::Now => unreachable!(),
+            Owner::Tx => seats::give(&mut self.seats, session, intent),
+            Owner::Branch { place } => table::give(&mut self.branches, place, intent),
         }
     }
 

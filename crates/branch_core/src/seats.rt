@@ -213,6 +213,7 @@ pub(crate) fn give(seats: &mut SortedMap<u64, Seat>, session: u64, intent: Inten
     requires tx { is_some (tx_in (find nat_cmp session (seats_of seats.old.entries))) ≡ true }
     requires room { 0 < tx_room_of session (tx_rooms seats.old.entries) }
     ensures seats { seats_of seats.new.entries ≡ changed nat_cmp session (tx_given intent) (seats_of seats.old.entries) }
+    ensures seat { find nat_cmp session (seats_of seats.new.entries) ≡ option_map (tx_given intent) (find nat_cmp session (seats_of seats.old.entries)) }
     ensures room { tx_room_of session (tx_rooms seats.new.entries) + 1 ≡ tx_room_of session (tx_rooms seats.old.entries) }
 {
     match seats.index_of(&session) {
@@ -240,6 +241,7 @@ pub(crate) fn reserve(
 ) -> Result<(), NoMemory>
     requires { is_some (tx_in (find nat_cmp session (seats_of seats.old.entries))) ≡ true }
     ensures seats { seats_of seats.new.entries ≡ seats_of seats.old.entries }
+    ensures kept { seats.new.room ≡ seats.old.room }
     ensures ok { OnOk result (more ≤ tx_room_of session (tx_rooms seats.new.entries)) }
 {
     match seats.index_of(&session) {

@@ -1,19 +1,21 @@
 //! Branches in order.
-ghost use Rattle.std.specs.Prelude.{◌≡◌, ◌≤◌, ◌<◌, ◌+◌, [], None, Some, IfSome, IfNone, OnOk, length, is_some, true, false};
+ghost use Rattle.std.specs.Prelude.{◌≡◌, ◌≤◌, ◌<◌, ◌+◌, [], None, Some, IfSome, IfNone, IfOk, OnOk, position, length, is_some, true, false};
 ghost use Rattle.std.specs.Option.{option_map};
+ghost use Rattle.std.specs.List.{list_any};
 ghost use Rattle.number_tree.specs.Numbers.{has};
 ghost use Rattle.sorted_map.specs.Map.{changed, changed_at, seen, value_at, index_of};
 ghost use Rattle.xid_map.specs.Xids.{xid_order, find, put, out};
 ghost use Rattle.branch_core.specs.Held.{held, fresh, joined, given, emptied, intents_of, is_undone, changed_by};
 ghost use Rattle.branch_core.specs.State.{branches_of, intent_rooms, room_in};
+ghost use Rattle.branch_core.specs.Acts.{is_undone_at, names_at, prepared_xids};
 ghost use Rattle.branch_core.specs.Faults.{status_in, prepared_in, associated_in, linked_in, standing_in};
 
 use crate::branch::{Branch, Change};
-use crate::marks::{Standing, Status};
+use crate::marks::{Standing, Status, Xids};
 use amqp_values::Xid;
 use branch_intents::{Intent, Intents};
 use number_tree::Slot;
-use octet_reading::NoMemory;
+use octet_reading::{NoMemory, Text};
 use std::alloc::Global;
 use xid_map::XidMap;
 
@@ -77,6 +79,21 @@ pub(crate) fn is_linked(branches: &XidMap<Branch>, xid: &Xid, session: u64) -> b
     match branch(branches, xid) {
         Some(branch) => branch.sessions.has(session),
         None => false,
+    }
+}
+
+/// What a branch that is there will do, as a copy.
+pub(crate) fn intents(
+    branches: &XidMap<Branch>,
+    alloc: Global,
+    xid: &Xid,
+) -> Result<Intents, NoMemory>
+    requires { is_some (find xid.now (branches_of branches.now.entries)) ≡ true }
+    ensures { IfOk result (λ intents. Some intents.items ≡ option_map intents_of (find xid.now (branches_of branches.now.entries))) }
+{
+    match branch(branches, xid) {
+        Some(branch) => branch.intents.copied(alloc),
+        None => unreachable!(),
     }
 }
 
@@ -154,6 +171,7 @@ pub(crate) fn reserve(
 ) -> Result<(), NoMemory>
     requires { place < length branches.old.entries }
     ensures branches { branches_of branches.new.entries ≡ branches_of branches.old.entries }
+    ensures kept { branches.new.room ≡ branches.old.room }
     ensures ok { OnOk result (more ≤ room_in (value_at (intent_rooms branches.new.entries) place)) }
 {
     branches.value_mut(place).intents.reserve(more)
@@ -204,4 +222,54 @@ fn into_intents(branch: Branch) -> Intents
     } = branch;
     drop(sessions);
     intents
+}
+
+/// Takes the intents of the branch at a place out.
+pub(crate) fn take(branches: &mut XidMap<Branch>, alloc: Global, place: usize) -> Intents
+    requires { place < length branches.old.entries }
+    ensures intents { Some result.items ≡ option_map intents_of (value_at (branches_of branches.old.entries) place) }
+    ensures branches { branches_of branches.new.entries ≡ changed_at place emptied (branches_of branches.old.entries) }
+{
+    branches.value_mut(place).take(alloc)
+}
+
+/// The place of the first branch that is marked and has intents.
+pub(crate) fn undone(entries: &[(Xid, Branch)]) -> Option<usize>
+    ensures place { result ≡ position is_undone_at (branches_of entries.now) }
+    ensures bound { IfSome result (λ place. place < length entries.now) }
+{
+    entries.iter().position(
+        |entry: &(Xid, Branch)| -> bool
+            ensures { result ≡ is_undone (held entry.now.1) }
+        { entry.1.is_undone() },
+    )
+}
+
+/// Whether a prepared branch names a queue.
+pub(crate) fn names(entries: &[(Xid, Branch)], queue: &Text) -> bool
+    ensures { result ≡ list_any (names_at queue.now) (branches_of entries.now) }
+{
+    let mut rest = entries;
+    while let Some((entry, more)) = rest.split_first() {
+        if entry.1.names(queue) {
+            return true;
+        }
+        rest = more;
+    }
+    false
+}
+
+/// The names of the prepared branches, in order.
+pub(crate) fn prepared(entries: &[(Xid, Branch)], alloc: Global) -> Result<Xids, NoMemory>
+    ensures { IfOk result (λ xids. xids.items ≡ prepared_xids (branches_of entries.now)) }
+{
+    let mut xids = Vec::new(alloc);
+    let mut rest = entries;
+    while let Some((entry, more)) = rest.split_first() {
+        if entry.1.prepared {
+            xids.push(entry.0.copied(alloc)?)?;
+        }
+        rest = more;
+    }
+    Ok(xids)
 }

@@ -2,13 +2,13 @@
 use Rattle.std.proofs.Common.{◌≡◌, ℕ, zero, suc, ◌<◌, Bool, true, false, not, if◌then◌else◌, List, [], ◌∷◌, ◌++◌, length, slice_index_or, slice_set, Option, None, Some, refl, sym, ap, ◌∙◌, arith}
 use Rattle.std.proofs.lemmas.Bool.{true≢false}
 use Rattle.std.specs.Cmp.{IsTotalOrder}
-use Rattle.std.specs.Ordering.{is_eq}
+use Rattle.std.specs.Ordering.{is_lt, is_eq}
 use Rattle.std.specs.declared.cmp.Ordering.{Ordering}
 use Rattle.std.specs.declared.cmp.Ordering.TheVariants.{Less, Equal, Greater}
 use Rattle.std.specs.List.{AllByRecursion}
 use Rattle.std.specs.List.Sorted.{IsStrictlySortedBy}
 use Rattle.sorted_map.specs.Cuts.{before, within, behind}
-use Rattle.sorted_map.specs.Map.{by_key, from_key, find, out, value_at, with_value}
+use Rattle.sorted_map.specs.Map.{by_key, from_key, first_of, find, out, value_at, with_value}
 use Rattle.sorted_map.proofs.Sorting.{parts}
 use Rattle.sorted_map.proofs.Ordering.{rises}
 
@@ -76,3 +76,30 @@ module _ {K T : Type 0} where
         go : (ws : List (K × T)) → 0 < length ws → value_at (ws ++ behind (from_key cmp key) es) 0 ≡ (elim ws [ [] ↦ None | w ∷ more ↦ Some w.1 ])
         go [] lt = absurd (omega (arith, lt))
         go (w ∷ ws) lt = refl
+
+      -- what is written where a key stands is what it stands for then
+      pub find_written : (key : K) (es : List (K × T)) (value : T) → IsStrictlySortedBy (by_key cmp) es → 0 < length (within (from_key cmp key) es) → find cmp key (with_value es (length (before (from_key cmp key) es)) value) ≡ Some value
+      find_written key es value s lt = ap (λ (xs : List (K × T)). find cmp key (with_value xs (length (before (from_key cmp key) es)) value)) (parts (from_key cmp key) (by_key cmp) (rises cmp total key) es s) ∙ go (within (from_key cmp key) es) lt (λ e. keyed_so key es e lt) where
+        skip : (xs ys : List (K × T)) → with_value (xs ++ ys) (length xs) value ≡ xs ++ with_value ys 0 value
+        skip [] ys = refl
+        skip (x ∷ xs) ys = ap (λ (zs : List (K × T)). x ∷ zs) (skip xs ys)
+
+        -- those before a key aren't with it
+        apart_from : (o : Ordering) → is_lt o ≡ true → is_eq o ≡ false
+        apart_from Less e = refl
+        apart_from Equal e = absurd (true≢false (sym e))
+        apart_from Greater e = refl
+
+        none : (xs ys : List (K × T)) → within (from_key cmp key) (before (from_key cmp key) xs ++ ys) ≡ within (from_key cmp key) ys
+        none [] ys = refl
+        none (x ∷ xs) ys = one (is_lt (from_key cmp key x)) refl (none xs ys) where
+          one : (b : Bool) → is_lt (from_key cmp key x) ≡ b → within (from_key cmp key) (before (from_key cmp key) xs ++ ys) ≡ within (from_key cmp key) ys → within (from_key cmp key) ((if b then x ∷ before (from_key cmp key) xs else before (from_key cmp key) xs) ++ ys) ≡ within (from_key cmp key) ys
+          one true e ih = ap (λ (b : Bool). if b then x ∷ within (from_key cmp key) (before (from_key cmp key) xs ++ ys) else within (from_key cmp key) (before (from_key cmp key) xs ++ ys)) (apart_from (from_key cmp key x) e) ∙ ih
+          one false e ih = ih
+
+        go : (ws : List (K × T)) → 0 < length ws → ((e : K × T) → e ≡ slice_index_or ws 0 e → cmp e.0 key ≡ Equal) → find cmp key (with_value (before (from_key cmp key) es ++ (ws ++ behind (from_key cmp key) es)) (length (before (from_key cmp key) es)) value) ≡ Some value
+        go [] lt is = absurd (omega (arith, lt))
+        go (w ∷ ws) lt is =
+            ap (find cmp key) (skip (before (from_key cmp key) es) (w ∷ (ws ++ behind (from_key cmp key) es)))
+            ∙ (ap first_of (none es ((w.0, value) ∷ (ws ++ behind (from_key cmp key) es)))
+            ∙ ap (λ (o : Ordering). first_of (if is_eq o then (w.0, value) ∷ within (from_key cmp key) (ws ++ behind (from_key cmp key) es) else within (from_key cmp key) (ws ++ behind (from_key cmp key) es))) (is w refl))

@@ -28,6 +28,12 @@ module _ {K T : Type 0} where
   value_at (e ∷ es) zero = Some e.1
   value_at (e ∷ es) (suc index) = value_at es index
 
+  -- the key at an index
+  abbrev pub key_at : List (K × T) → ℕ → Option K
+  key_at [] index = None
+  key_at (e ∷ es) zero = Some e.0
+  key_at (e ∷ es) (suc index) = key_at es index
+
   -- where the key at an index stands for another value
   abbrev pub with_value : List (K × T) → ℕ → T → List (K × T)
   with_value [] index value = []

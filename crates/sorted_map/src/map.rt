@@ -5,7 +5,7 @@ ghost use Rattle.std.specs.Option.{option_copied};
 ghost use Rattle.std.specs.Ordering.{is_lt, is_le};
 ghost use Rattle.std.specs.declared.cmp.Ordering.TheVariants.{Equal};
 ghost use Rattle.sorted_map.specs.Cuts.{before, within};
-ghost use Rattle.sorted_map.specs.Map.{by_key, from_key, find, put, out, index_of, value_at};
+ghost use Rattle.sorted_map.specs.Map.{by_key, from_key, find, put, out, index_of, value_at, with_value};
 
 use octet_reading::NoMemory;
 use std::alloc::Global;
@@ -86,6 +86,7 @@ impl<K: Ord, T> SortedMap<K, T> {
     pub fn index_of(&self, key: &K) -> Option<usize>
         ensures index { IfSome result (λ i. i ≡ length (before (from_key K.cmp key.now) self.now.entries)) }
         ensures some { IfSome result (λ i. (i < length self.now.entries) × (value_at self.now.entries i ≡ find K.cmp key.now self.now.entries)) }
+        ensures written { IfSome result (λ i. (value : T) → find K.cmp key.now (with_value self.now.entries i value) ≡ Some value) }
         ensures none { IfNone result (find K.cmp key.now self.now.entries ≡ None) }
     {
         let (low, high) = part(self.entries.as_slice(), key);

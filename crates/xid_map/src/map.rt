@@ -4,7 +4,7 @@ ghost use Rattle.std.specs.List.Sorted.{IsStrictlySortedBy};
 ghost use Rattle.std.specs.Option.{option_copied};
 ghost use Rattle.std.specs.Ordering.{is_lt, is_le};
 ghost use Rattle.sorted_map.specs.Cuts.{before, within};
-ghost use Rattle.sorted_map.specs.Map.{index_of, value_at};
+ghost use Rattle.sorted_map.specs.Map.{index_of, value_at, with_value};
 ghost use Rattle.xid_map.specs.Xids.{xid_order, by_xid, from_xid, find, put, out};
 
 use amqp_values::Xid;
@@ -100,6 +100,7 @@ impl<T> XidMap<T> {
     pub fn index_of(&self, xid: &Xid) -> Option<usize>
         ensures index { IfSome result (λ i. i ≡ length (before (from_xid xid.now) self.now.entries)) }
         ensures some { IfSome result (λ i. (i < length self.now.entries) × (value_at self.now.entries i ≡ find xid.now self.now.entries)) }
+        ensures written { IfSome result (λ i. (value : T) → find xid.now (with_value self.now.entries i value) ≡ Some value) }
         ensures none { IfNone result (find xid.now self.now.entries ≡ None) }
     {
         let (low, high) = part(self.entries.as_slice(), xid);
