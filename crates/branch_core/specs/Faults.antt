@@ -1,5 +1,5 @@
 -- The first condition of a command that holds; its code.
-use Rattle.std.specs.Prelude.{◌≡◌, ℕ, zero, suc, ◌==◌, ◌&&◌, nat_le, not, eqb, Bool, true, false, if◌then◌else◌, List, [], ◌∷◌, length, Option, None, Some, is_some}
+use Rattle.std.specs.Prelude.{◌≡◌, ℕ, zero, suc, ◌==◌, ◌&&◌, nat_le, not, Bool, true, false, if◌then◌else◌, List, [], ◌∷◌, length, Option, None, Some, is_some}
 use Rattle.amqp_values.specs.declared.value.Xid.{Xid}
 use Rattle.number_tree.specs.Numbers.{has}
 use Rattle.sorted_map.specs.Map.{index_of}
@@ -80,6 +80,10 @@ is_unfit start.New linked = false
 is_unfit start.Join linked = linked
 is_unfit start.Resume linked = not linked
 
+-- one phase wants a branch that isn't prepared, and two want one that is
+abbrev pub is_unphased : Bool → Bool → Bool
+is_unphased one_phase prepared = if one_phase then prepared else not prepared
+
 abbrev pub is_suspend : End → Bool
 is_suspend end.Success = false
 is_suspend end.Fail = false
@@ -120,13 +124,12 @@ module _ (xid : Xid) (s : State) where
       ∷ (prepared_in (find xid s.branches), 409)
       ∷ [])
 
-  -- one-phase wants a branch that isn't prepared, and two-phase one that is
   abbrev pub commit_fault : Bool → Option ℕ
   commit_fault one_phase =
       first_of
       ((not (is_some (find xid s.branches)), 404)
       ∷ (associated_in (find xid s.branches), 409)
-      ∷ (eqb (prepared_in (find xid s.branches)) one_phase, 409)
+      ∷ (is_unphased one_phase (prepared_in (find xid s.branches)), 409)
       ∷ [])
 
   abbrev pub rollback_fault : Option ℕ

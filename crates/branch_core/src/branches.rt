@@ -11,7 +11,7 @@ ghost use Rattle.branch_core.specs.Held.{intents_of, timed, as_prepared};
 ghost use Rattle.branch_core.specs.declared.marks.Start.TheVariants as start;
 ghost use Rattle.branch_core.specs.declared.marks.Standing.TheVariants as standing;
 ghost use Rattle.branch_core.specs.State.{seat_of, dtx_in, tx_in, active_in, owner_of, IsOwned, IsBelow, AllBelow, Fits, HasRoom, branches_of, seats_of, state_of};
-ghost use Rattle.branch_core.specs.Faults.{Tells, IsRefusal, is_new, status_in, standing_in, linked_in, is_unfit, is_at, start_fault, end_fault, prepare_fault, commit_fault, rollback_fault, timeout_fault, select_fault};
+ghost use Rattle.branch_core.specs.Faults.{Tells, IsRefusal, is_new, status_in, standing_in, linked_in, is_unfit, is_unphased, is_at, start_fault, end_fault, prepare_fault, commit_fault, rollback_fault, timeout_fault, select_fault};
 ghost use Rattle.branch_core.specs.Acts.{start_status, started, placed, joined_in, ended, end_status, selected, finished, with_branch, with_seat, tx_emptied, left_all, expired_all, gone_all, seconds_of, undone, undo_intents, added, prepared_xids, names_at};
 
 use crate::branch::{Branch, Change};
@@ -309,7 +309,7 @@ impl Branches {
         if table::is_associated(&self.branches, xid) {
             return Err(BranchFault::Refused(409));
         }
-        if table::is_prepared(&self.branches, xid) == one_phase {
+        if is_unphased(one_phase, table::is_prepared(&self.branches, xid)) {
             return Err(BranchFault::Refused(409));
         }
         Ok(table::intents(&self.branches, self.alloc, xid)?)
@@ -625,4 +625,11 @@ fn is_unfit(how: Start, linked: bool) -> bool
         Start::Join => linked,
         Start::Resume => !linked,
     }
+}
+
+/// Whether one phase finds a prepared branch, or two find one that isn't.
+fn is_unphased(one_phase: bool, prepared: bool) -> bool
+    ensures { result ≡ is_unphased one_phase prepared }
+{
+    if one_phase { prepared } else { !prepared }
 }

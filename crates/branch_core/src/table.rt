@@ -238,11 +238,14 @@ pub(crate) fn undone(entries: &[(Xid, Branch)]) -> Option<usize>
     ensures place { result ≡ position is_undone_at (branches_of entries.now) }
     ensures bound { IfSome result (λ place. place < length entries.now) }
 {
-    entries.iter().position(
-        |entry: &(Xid, Branch)| -> bool
-            ensures { result ≡ is_undone (held entry.now.1) }
-        { entry.1.is_undone() },
-    )
+    first_undone(entries)
+}
+
+fn first_undone(entries: &[(Xid, Branch)]) -> Option<usize>
+    ensures place { result ≡ position (λ e. is_undone (held e.1)) entries.now }
+    ensures bound { IfSome result (λ place. place < length entries.now) }
+{
+    entries.iter().position(|entry| entry.1.is_undone())
 }
 
 /// Whether a prepared branch names a queue.

@@ -1,11 +1,12 @@
 -- Entries seen by a function are found and changed as they are themselves.
-use Rattle.std.proofs.Common.{◌≡◌, ℕ, zero, suc, ◌+◌, ◌<◌, ◌≤◌, Bool, not, true, false, if◌then◌else◌, List, [], ◌∷◌, ◌++◌, length, filter, Option, None, Some, refl, sym, ap, ◌∙◌, arith}
+use Rattle.std.proofs.Common.{◌≡◌, ℕ, zero, suc, ◌+◌, ◌<◌, ◌≤◌, Bool, not, true, false, if◌then◌else◌, List, [], ◌∷◌, ◌++◌, length, filter, cond, nat_lt, position, slice_index_or, Option, None, Some, refl, sym, ap, ◌∙◌, arith}
 use Rattle.std.specs.Borrow.{Bor}
+use Rattle.std.specs.List.{prefix_len}
 use Rattle.std.specs.Option.{option_map, option_copied}
 use Rattle.std.specs.Ordering.{is_lt, is_gt, is_eq}
 use Rattle.std.specs.declared.cmp.Ordering.{Ordering}
 use Rattle.sorted_map.specs.Cuts.{before, within, behind}
-use Rattle.sorted_map.specs.Map.{from_key, find, put, out, index_of, value_at, with_value, changed_at, changed_if, changed, seen}
+use Rattle.sorted_map.specs.Map.{from_key, find, put, out, index_of, key_at, value_at, with_value, changed_at, changed_if, changed, seen}
 
 module _ {K T U : Type 0} (look : T → U) where
   pub seen_length : (es : List (K × T)) → length (seen look es) ≡ length es
@@ -149,3 +150,28 @@ module _ {K T : Type 0} where
     go : (o : Option T) → length (changed_if o (index_of cmp key es) change es) ≡ length es
     go None = refl
     go (Some t) = length_changed_at (index_of cmp key es) change es
+
+module _ {K T U : Type 0} (look : T → U) where
+  pub seen_key : (es : List (K × T)) (i : ℕ) → key_at (seen look es) i ≡ key_at es i
+  seen_key [] i = refl
+  seen_key (e ∷ es) zero = refl
+  seen_key (e ∷ es) (suc i) = seen_key es i
+
+  seen_prefix : (p : U → Bool) (es : List (K × T)) → prefix_len (λ (e : K × T). p (look e.1)) es ≡ prefix_len (λ (e : K × U). p e.1) (seen look es)
+  seen_prefix p [] = refl
+  seen_prefix p (e ∷ es) = ap (λ (n : ℕ). cond (p (look e.1)) (1 + n) 0) (seen_prefix p es)
+
+  pub seen_position : (p : U → Bool) (es : List (K × T)) → position (λ (e : K × T). p (look e.1)) es ≡ position (λ (e : K × U). p e.1) (seen look es)
+  seen_position p es =
+      ap (λ (n : ℕ). cond (nat_lt n (length es)) (Some n) None) (seen_prefix (λ u. not (p u)) es)
+      ∙ ap (λ (m : ℕ). cond (nat_lt (prefix_len (λ (e : K × U). not (p e.1)) (seen look es)) m) (Some (prefix_len (λ (e : K × U). not (p e.1)) (seen look es))) None) (sym (seen_length look es))
+
+  pub key_is : (es : List (K × T)) (i : ℕ) (d : K × T) → i < length es → key_at es i ≡ Some (slice_index_or es i d).0
+  key_is [] i d lt = absurd (omega (arith, lt))
+  key_is (e ∷ es) zero d lt = refl
+  key_is (e ∷ es) (suc i) d lt = key_is es i d (omega (arith, lt))
+
+  pub value_of : (es : List (K × T)) (i : ℕ) (d : K × T) → i < length es → value_at es i ≡ Some (slice_index_or es i d).1
+  value_of [] i d lt = absurd (omega (arith, lt))
+  value_of (e ∷ es) zero d lt = refl
+  value_of (e ∷ es) (suc i) d lt = value_of es i d (omega (arith, lt))
