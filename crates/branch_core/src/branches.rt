@@ -2,9 +2,6 @@
 ghost use Rattle.std.specs.Prelude.{◌≡◌, ℕ, ◌≤◌, ◌<◌, ◌+◌, ◌∷◌, [], None, Some, IfSome, IfNone, IfOk, IfErr, OnOk, OnErr, IsOk, length, map, filter, is_some, true, false};
 ghost use Rattle.std.specs.Option.{option_map};
 ghost use Rattle.std.specs.List.{list_any};
-
-
-
 ghost use Rattle.xid_map.specs.Xids.{xid_order, find};
 ghost use Rattle.sorted_map.specs.Map.{index_of, key_at, value_at, changed_at};
 ghost use Rattle.branch_core.specs.Held.{intents_of, timed, as_prepared};
@@ -201,13 +198,7 @@ impl Branches {
         if let Some(code) = self.end_fault(session, xid, how) {
             return Err(BranchFault::Refused(code));
         }
-        Ok(part(
-            &mut self.branches,
-            &mut self.seats,
-            session,
-            xid,
-            how,
-        ))
+        Ok(part(&mut self.branches, &mut self.seats, session, xid, how))
     }
 
     /// A branch is given so many seconds from now, in seconds; no time where 0. Takes no memory.

@@ -218,7 +218,9 @@ fn into_intents(branch: Branch) -> Intents
     ensures { result.items ≡ (held branch).intents }
 {
     let Branch {
-        sessions, intents, ..
+        sessions,
+        intents,
+        ..
     } = branch;
     drop(sessions);
     intents

@@ -23,4 +23,3 @@ returns-in-Fail-clause-below c =
     let place = c.place_of-place.result in
     subst (λ (n : ℕ). AllBelow n (seats_of c.turn_one.new.seats.entries)) (sym (same_count c.args.branches.now.entries c.change_one-in-Fail.new.branches.entries (ap length c.change_one-in-Fail.ensures.branches ∙ length_changed xid_order c.args.xid.now _ (branches_of c.args.branches.now.entries))))
     (subst (AllBelow (length c.args.branches.now.entries)) (sym c.turn_one.ensures) (below_changed (length c.args.branches.now.entries) (left place) (below_left (length c.args.branches.now.entries) place) c.args.session (seats_of c.args.seats.now.entries) c.requires.below))
-
