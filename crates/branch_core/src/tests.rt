@@ -422,3 +422,20 @@ fn a_start_with_room_and_a_commit_of_a_tx(rt: HostRuntime) {
     ];
     assert_eq!(rt; first_wrong(rt.alloc(), &steps), 16);
 }
+
+#[test]
+fn publishing_in_a_tx_over_a_lost_connection(rt: HostRuntime) {
+    let steps = [
+        (1, Ask::Tx, 0),
+        (1, Ask::Accept(1), 0),
+        (1, Ask::Accept(2), 0),
+        (1, Ask::Accept(3), 0),
+        (1, Ask::Expire(30), 0),
+        (1, Ask::Owner, 13),
+        (1, Ask::Commit, 13),
+        (1, Ask::Owner, 10),
+        (1, Ask::Accept(4), 0),
+        (1, Ask::Commit, 11),
+    ];
+    assert_eq!(rt; first_wrong(rt.alloc(), &steps), 10);
+}

@@ -386,3 +386,50 @@ fn exchanges_and_bindings_by_name(rt: HostRuntime) -> Result<(), Fail> {
     assert_eq!(rt; exchanges.sizes(), (4, 2));
     Ok(())
 }
+
+#[test]
+fn no_queue_found_and_an_alternate_exchange(rt: HostRuntime) -> Result<(), Fail> {
+    let alloc = rt.alloc();
+    let mut exchanges = Exchanges::new(alloc)?;
+    assert!(rt; bind(&mut exchanges, alloc, &[("amq.fanout", "q", "", NONE)])?);
+    assert!(rt;
+        go(
+            &exchanges,
+            alloc,
+            &[
+                ("amq.direct", "z", NONE, ""),
+                ("amq.fanout", "z", NONE, "q ")
+            ]
+        )?
+    );
+    Ok(())
+}
+
+#[test]
+fn publishing_in_a_tx_over_a_lost_connection(rt: HostRuntime) -> Result<(), Fail> {
+    let alloc = rt.alloc();
+    let mut exchanges = Exchanges::new(alloc)?;
+    assert!(rt;
+        bind(
+            &mut exchanges,
+            alloc,
+            &[
+                ("amq.topic", "nyse", "stock.*.nyse", NONE),
+                ("amq.topic", "all", "#", NONE),
+                ("amq.match", "hot", "", ANY),
+            ]
+        )?
+    );
+    assert!(rt;
+        go(
+            &exchanges,
+            alloc,
+            &[
+                ("amq.topic", "stock.ibm.nyse", NONE, "all nyse "),
+                ("amq.topic", "stock.ibm.lse", NONE, "all "),
+                ("amq.match", "", URGENT, "hot "),
+            ]
+        )?
+    );
+    Ok(())
+}

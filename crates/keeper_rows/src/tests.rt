@@ -66,7 +66,7 @@ fn each_kind_of_row_is_written_as_it_was_read(rt: HostRuntime) -> Result<(), Fai
 }
 
 #[test]
-fn format_1_is_read_and_format_2_is_written(rt: HostRuntime) -> Result<(), Fail> {
+fn rows_of_format_1_mended_at_opening(rt: HostRuntime) -> Result<(), Fail> {
     let alloc = rt.alloc();
     match again(alloc, b"Qq", &[1, 0, 0, 0, 0, 0])? {
         Some(row) => assert_eq!(rt; row.content.as_slice(), &[2, 0, 0, 0, 0, 0][..]),
@@ -105,5 +105,23 @@ fn a_bad_row_is_refused(rt: HostRuntime) -> Result<(), Fail> {
     );
     // Arguments that are no map.
     assert!(rt; is_bad(alloc, b"Qq", &[2, 0, 0, 0, 0, 1, 0])?);
+    Ok(())
+}
+
+#[test]
+fn durable_exchange_and_binding(rt: HostRuntime) -> Result<(), Fail> {
+    let alloc = rt.alloc();
+    assert!(rt; is_kept(alloc, &[0x45, 0x65], &[2, 2, 0, 0, 0, 0, 0])?);
+    assert!(rt; is_kept(alloc, &[0x51, 0x71], &[2, 0, 0, 0, 0, 0])?);
+    let binding = [0x52, 1, 0x65, 1, 0x71, 0x61, 0x2e, 0x23];
+    assert!(rt; is_kept(alloc, &binding, &[2, 0, 0, 0, 0])?);
+    Ok(())
+}
+
+#[test]
+fn a_binding_without_its_exchange(rt: HostRuntime) -> Result<(), Fail> {
+    // The row by itself is good: what other rows there are is asked by whoever opens the store.
+    let binding = [0x52, 1, 0x65, 1, 0x71, 0x6b];
+    assert!(rt; is_kept(rt.alloc(), &binding, &[2, 0, 0, 0, 0])?);
     Ok(())
 }

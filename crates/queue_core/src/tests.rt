@@ -194,3 +194,64 @@ fn queues_come_by_name_and_keep_their_marks(rt: HostRuntime) -> Result<(), Fail>
     assert_eq!(rt; names(&queues), 21);
     Ok(())
 }
+
+/// Accepts all that a session holds, and tells how many copies that were.
+fn accept_all<L: Ledger>(queues: &mut Queues, session: u64, steps: &mut Steps<L>) -> u64 {
+    let mut accepted: u64 = 0;
+    for _ in 0..100u8 {
+        let Some(number) = queues.first_held(session) else {
+            break;
+        };
+        if queues.contains(number) {
+            queues.accept(number, steps);
+        }
+        accepted = accepted.saturating_add(1);
+    }
+    accepted
+}
+
+/// How many copies a session accepted of three that it held, and what the queue counts then.
+fn accepted<L: Ledger>(alloc: Global, blank: Blank) -> Result<(u64, Option<(u64, u64)>), NoMemory>
+    requires name { blank.name ≡ L.name }
+    requires parts { blank.parts ≡ L.parts }
+    requires some { 0 < L.parts }
+{
+    let mut steps = Steps::<L>::open(blank);
+    let mut queues = Queues::new(alloc)?;
+    declare(&mut queues, alloc, "q")?;
+    for _ in 0..3u8 {
+        add(&mut queues, alloc, "q")?;
+        acquire(&mut queues, alloc, "q", 7, &mut steps)?;
+    }
+    let count = accept_all(&mut queues, 7, &mut steps);
+    Ok((count, counts(&queues, alloc, "q")?))
+}
+
+#[test]
+fn a_wide_accept(rt: HostRuntime) -> Result<(), Fail> {
+    assert_eq!(rt;
+        accepted::<Brand>(rt.alloc(), Blank::new(1))?,
+        (3, Some((0, 0)))
+    );
+    Ok(())
+}
+
+/// Places a queue for which there is room; whether it is the only one then, with a list of its own.
+fn placed(queues: &mut Queues, name: Text, marks: QueueMarks) -> bool {
+    if queues.room(1, 0).is_err() || queues.marks(&name).is_some() {
+        drop(name);
+        drop(marks);
+        return false;
+    }
+    queues.place(name, marks);
+    names(queues) == 1 && queues.lists() > 0
+}
+
+#[test]
+fn a_queue_is_placed_where_room_was_made(rt: HostRuntime) -> Result<(), Fail> {
+    let mut queues = Queues::new(rt.alloc())?;
+    let marks = marks(rt.alloc(), "")?;
+    let name = Text::from_text(rt.alloc(), "q")?;
+    assert!(rt; placed(&mut queues, name, marks));
+    Ok(())
+}
