@@ -6,6 +6,3 @@ mod serial;
 
 pub use range_set::{RangeIter, RangeSet};
 pub use serial::{unwrap, unwrap_range};
-
-#[cfg(test)]
-mod tests;
