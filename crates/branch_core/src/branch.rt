@@ -1,5 +1,5 @@
 //! One branch.
-ghost use Rattle.std.specs.Prelude.{◌≡◌, ◌≤◌, ◌<◌, ◌+◌, ◌++◌, ◌∷◌, false, []};
+ghost use Rattle.std.specs.Prelude.{◌≡◌, ◌<◌, ◌+◌, false};
 ghost use Rattle.number_tree.specs.Numbers.{has};
 ghost use Rattle.branch_core.specs.Held.{held, fresh, joined, marked, parted, is_due, deadline_of, given, emptied, is_undone, names_queue, changed_by};
 

@@ -1,14 +1,14 @@
 //! The branches.
-ghost use Rattle.std.specs.Prelude.{◌≡◌, ℕ, ◌≤◌, ◌<◌, ◌+◌, ◌∷◌, [], None, Some, IfSome, IfNone, IfOk, IfErr, OnOk, OnErr, IsOk, length, map, filter, is_some, true, false};
+ghost use Rattle.std.specs.Prelude.{◌≡◌, ℕ, ◌≤◌, ◌<◌, ◌+◌, [], None, Some, IfOk, IfErr, OnOk, OnErr, IsOk, length, is_some, true, false};
 ghost use Rattle.std.specs.Option.{option_map};
 ghost use Rattle.std.specs.List.{list_any};
 ghost use Rattle.xid_map.specs.Xids.{xid_order, find};
-ghost use Rattle.sorted_map.specs.Map.{index_of, key_at, value_at, changed_at};
+ghost use Rattle.sorted_map.specs.Map.{index_of, key_at, value_at};
 ghost use Rattle.branch_core.specs.Held.{intents_of, timed, as_prepared};
 ghost use Rattle.branch_core.specs.declared.marks.Start.TheVariants as start;
 ghost use Rattle.branch_core.specs.declared.marks.Standing.TheVariants as standing;
 ghost use Rattle.branch_core.specs.State.{seat_of, dtx_in, tx_in, active_in, owner_of, IsOwned, IsBelow, AllBelow, Fits, HasRoom, branches_of, seats_of, state_of};
-ghost use Rattle.branch_core.specs.Faults.{Tells, IsRefusal, is_new, status_in, standing_in, linked_in, is_unfit, is_unphased, is_at, start_fault, end_fault, prepare_fault, commit_fault, rollback_fault, timeout_fault, select_fault};
+ghost use Rattle.branch_core.specs.Faults.{Tells, IsRefusal, is_new, standing_in, linked_in, is_unfit, is_unphased, is_at, start_fault, end_fault, prepare_fault, commit_fault, rollback_fault, timeout_fault, select_fault};
 ghost use Rattle.branch_core.specs.Acts.{start_status, started, placed, joined_in, ended, end_status, selected, finished, with_branch, with_seat, tx_emptied, left_all, expired_all, gone_all, seconds_of, undone, undo_intents, added, prepared_xids, names_at};
 
 use crate::branch::{Branch, Change};
