@@ -210,6 +210,20 @@ fn accept_all<L: Ledger>(queues: &mut Queues, session: u64, steps: &mut Steps<L>
     accepted
 }
 
+/// A queue of three copies, all held by a session.
+fn hold_three<L: Ledger>(
+    queues: &mut Queues,
+    alloc: Global,
+    steps: &mut Steps<L>,
+) -> Result<(), NoMemory> {
+    declare(queues, alloc, "q")?;
+    for _ in 0..3u8 {
+        add(queues, alloc, "q")?;
+        acquire(queues, alloc, "q", 7, steps)?;
+    }
+    Ok(())
+}
+
 /// How many copies a session accepted of three that it held, and what the queue counts then.
 fn accepted<L: Ledger>(alloc: Global, blank: Blank) -> Result<(u64, Option<(u64, u64)>), NoMemory>
     requires name { blank.name ≡ L.name }
@@ -218,13 +232,10 @@ fn accepted<L: Ledger>(alloc: Global, blank: Blank) -> Result<(u64, Option<(u64,
 {
     let mut steps = Steps::<L>::open(blank);
     let mut queues = Queues::new(alloc)?;
-    declare(&mut queues, alloc, "q")?;
-    for _ in 0..3u8 {
-        add(&mut queues, alloc, "q")?;
-        acquire(&mut queues, alloc, "q", 7, &mut steps)?;
-    }
+    hold_three(&mut queues, alloc, &mut steps)?;
     let count = accept_all(&mut queues, 7, &mut steps);
-    Ok((count, counts(&queues, alloc, "q")?))
+    let counts = counts(&queues, alloc, "q")?;
+    Ok((count, counts))
 }
 
 #[test]
@@ -233,25 +244,5 @@ fn a_wide_accept(rt: HostRuntime) -> Result<(), Fail> {
         accepted::<Brand>(rt.alloc(), Blank::new(1))?,
         (3, Some((0, 0)))
     );
-    Ok(())
-}
-
-/// Places a queue for which there is room; whether it is the only one then, with a list of its own.
-fn placed(queues: &mut Queues, name: Text, marks: QueueMarks) -> bool {
-    if queues.room(1, 0).is_err() || queues.marks(&name).is_some() {
-        drop(name);
-        drop(marks);
-        return false;
-    }
-    queues.place(name, marks);
-    names(queues) == 1 && queues.lists() > 0
-}
-
-#[test]
-fn a_queue_is_placed_where_room_was_made(rt: HostRuntime) -> Result<(), Fail> {
-    let mut queues = Queues::new(rt.alloc())?;
-    let marks = marks(rt.alloc(), "")?;
-    let name = Text::from_text(rt.alloc(), "q")?;
-    assert!(rt; placed(&mut queues, name, marks));
     Ok(())
 }
