@@ -41,7 +41,7 @@ pub enum Value {
 }
 
 /// The name of a distributed transaction's branch.
-#[derive(Debug, Drop)]
+#[derive(Debug, Drop, PartialEq, Eq, PartialOrd, Ord)]
 pub struct Xid {
     pub format: u32,
     pub global: Octets,
