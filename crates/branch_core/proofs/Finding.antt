@@ -5,7 +5,7 @@ use Rattle.std.specs.Option.{option_map}
 use Rattle.amqp_values.specs.declared.value.Xid.{Xid}
 use Rattle.sorted_map.specs.Map.{seen}
 use Rattle.sorted_map.proofs.Showing.{seen_find}
-use Rattle.xid_map.specs.Xids.{xid_order, find}
+use Rattle.branch_core.specs.Xids.{xid_order, find}
 
 none_of : {T U : Type 0} (look : T → U) (o : Option T) → option_map look o ≡ None → o ≡ None
 none_of look None e = refl

@@ -6,7 +6,7 @@ use Rattle.amqp_values.specs.declared.value.Xid.{Xid}
 use Rattle.branch_intents.specs.declared.intents.Intent.{Intent}
 use Rattle.sorted_map.specs.Map.{index_of, changed, changed_at, seen, value_at}
 use Rattle.sorted_map.specs.Map as maps
-use Rattle.xid_map.specs.Xids.{xid_order, find, put, out}
+use Rattle.branch_core.specs.Xids.{xid_order, find, put, out}
 use Rattle.branch_core.specs.declared.seats.Turn.{Turn}
 use Rattle.branch_core.specs.declared.seats.Turn.TheVariants.{Activate, Leave, Push, Pull, Gone}
 use Rattle.branch_core.specs.declared.marks.Start.{Start}
@@ -38,10 +38,11 @@ left_by place (Some other) = if other == place then None else Some other
 abbrev pub left : ℕ → Seated → Seated
 left place t = record t { active = left_by place t.active }
 
--- a branch that comes in at a place moves those from there on; one that goes moves those behind it
+-- the place behind; none where it can't be counted
 abbrev pub up : ℕ → Option ℕ
 up place = if nat_lt (place + 1) (2 ^ 64) then Some (place + 1) else None
 
+-- a branch that comes in at a place moves those from there on; one that goes moves those behind it
 abbrev pub pushed_by : ℕ → Option ℕ → Option ℕ
 pushed_by place None = None
 pushed_by place (Some other) = if nat_lt other place then Some other else up other

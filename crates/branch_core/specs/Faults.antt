@@ -3,7 +3,7 @@ use Rattle.std.specs.Prelude.{◌≡◌, ℕ, zero, suc, ◌==◌, ◌&&◌, nat
 use Rattle.amqp_values.specs.declared.value.Xid.{Xid}
 use Rattle.number_tree.specs.Numbers.{has}
 use Rattle.sorted_map.specs.Map.{index_of}
-use Rattle.xid_map.specs.Xids.{xid_order, find}
+use Rattle.branch_core.specs.Xids.{xid_order, find}
 use Rattle.branch_core.specs.declared.marks.Start.{Start}
 use Rattle.branch_core.specs.declared.marks.Start.TheVariants as start
 use Rattle.branch_core.specs.declared.marks.End.{End}
@@ -12,7 +12,7 @@ use Rattle.branch_core.specs.declared.marks.BranchFault.{BranchFault}
 use Rattle.branch_core.specs.declared.marks.BranchFault.TheVariants.{Refused, NoMemory}
 use Rattle.branch_core.specs.declared.marks.Standing.{Standing}
 use Rattle.branch_core.specs.declared.marks.Standing.TheVariants as standing
-use Rattle.branch_core.specs.Held.{Held}
+use Rattle.branch_core.specs.Held.{Held, is_any}
 use Rattle.branch_core.specs.State.{State, seat_of, dtx_in, tx_in, active_in}
 
 abbrev pub first_of : List (Bool × ℕ) → Option ℕ
@@ -38,10 +38,6 @@ abbrev pub prepared_in : Option Held → Bool
 prepared_in None = false
 prepared_in (Some h) = h.prepared
 
-abbrev is_any : List ℕ → Bool
-is_any [] = false
-is_any (n ∷ ns) = true
-
 -- a session is associated with it
 abbrev pub associated_in : Option Held → Bool
 associated_in None = false
@@ -51,9 +47,6 @@ associated_in (Some h) = is_any h.sessions
 abbrev pub linked_in : ℕ → Option Held → Bool
 linked_in session None = false
 linked_in session (Some h) = has session h.sessions
-
-abbrev pub seconds_in : Held → ℕ
-seconds_in h = h.seconds
 
 abbrev standing_by : ℕ → Bool → Bool → Standing
 standing_by zero true associated = standing.Prepared

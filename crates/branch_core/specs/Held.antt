@@ -64,11 +64,11 @@ intents_of h = h.intents
 abbrev pub emptied : Held → Held
 emptied h = record h { intents = [] }
 
--- it is marked, and its intents are to be undone
-abbrev pub is_any : List Intent → Bool
+abbrev pub is_any : {X : Type 0} → List X → Bool
 is_any [] = false
-is_any (i ∷ is) = true
+is_any (x ∷ xs) = true
 
+-- it is marked, and its intents are to be undone
 abbrev pub is_undone : Held → Bool
 is_undone h = not (h.status == 0) && is_any h.intents
 

@@ -1,3 +1,4 @@
+pub mod Xids
 pub mod Held
 pub mod State
 pub mod Faults

@@ -2,7 +2,7 @@
 ghost use Rattle.std.specs.Prelude.{◌≡◌, ℕ, ◌≤◌, ◌<◌, ◌+◌, [], None, Some, IfOk, IfErr, OnOk, OnErr, IsOk, length, is_some, true, false};
 ghost use Rattle.std.specs.Option.{option_map};
 ghost use Rattle.std.specs.List.{list_any};
-ghost use Rattle.xid_map.specs.Xids.{xid_order, find};
+ghost use Rattle.branch_core.specs.Xids.{xid_order, find};
 ghost use Rattle.sorted_map.specs.Map.{index_of, key_at, value_at};
 ghost use Rattle.branch_core.specs.Held.{intents_of, timed, as_prepared};
 ghost use Rattle.branch_core.specs.declared.marks.Start.TheVariants as start;
@@ -14,7 +14,7 @@ ghost use Rattle.branch_core.specs.Acts.{start_status, started, placed, joined_i
 use crate::branch::{Branch, Change};
 use crate::marks::{BranchFault, End, Owner, Standing, Start, Status, Xids};
 use crate::seats::{self, Seat, Turn};
-use crate::table;
+use crate::{table, work};
 use amqp_values::Xid;
 use branch_intents::{Intent, Intents};
 use number_tree::Slot;
@@ -22,7 +22,6 @@ use octet_reading::{NoMemory, Text};
 use sorted_map::SortedMap;
 use std::alloc::Global;
 use std::marker::Model;
-use xid_map::XidMap;
 
 /// How many branches there may be.
 const MOST: usize = 65_536;
@@ -31,7 +30,7 @@ const MOST: usize = 65_536;
 #[derive(Debug, Drop)]
 pub struct Branches {
     alloc: Global,
-    branches: XidMap<Branch>,
+    branches: SortedMap<Xid, Branch>,
     seats: SortedMap<u64, Seat>,
     /// Room for one association.
     slot: Option<Slot>,
@@ -60,7 +59,7 @@ impl Branches {
     {
         Branches {
             alloc,
-            branches: XidMap::new(alloc),
+            branches: SortedMap::new(alloc),
             seats: SortedMap::new(alloc),
             slot: None,
         }
@@ -174,7 +173,7 @@ impl Branches {
         ensures { self.new.state ≡ placed session xid self.old.state }
     {
         match self.slot.take() {
-            Some(slot) => begin(
+            Some(slot) => work::begin(
                 &mut self.branches,
                 &mut self.seats,
                 self.alloc,
@@ -198,7 +197,7 @@ impl Branches {
         if let Some(code) = self.end_fault(session, xid, how) {
             return Err(BranchFault::Refused(code));
         }
-        Ok(part(&mut self.branches, &mut self.seats, session, xid, how))
+        Ok(work::part(&mut self.branches, &mut self.seats, session, xid, how))
     }
 
     /// A branch is given so many seconds from now, in seconds; no time where 0. Takes no memory.
@@ -230,7 +229,7 @@ impl Branches {
         ensures intents { Some result.items ≡ option_map intents_of (find xid.now self.old.state.branches) }
         ensures state { self.new.state ≡ finished xid.now self.old.state }
     {
-        finish(&mut self.branches, &mut self.seats, xid)
+        work::finish(&mut self.branches, &mut self.seats, xid)
     }
 
     /// Time has come so far: the unprepared branches that are due are marked. Takes no memory.
@@ -300,7 +299,7 @@ impl Branches {
         if table::is_associated(&self.branches, xid) {
             return Err(BranchFault::Refused(409));
         }
-        if is_unphased(one_phase, table::is_prepared(&self.branches, xid)) {
+        if work::is_unphased(one_phase, table::is_prepared(&self.branches, xid)) {
             return Err(BranchFault::Refused(409));
         }
         Ok(table::intents(&self.branches, self.alloc, xid)?)
@@ -374,7 +373,7 @@ impl Branches {
     {
         self.branches.reserve(1)?;
         self.seats.reserve(1)?;
-        ready(&mut self.slot, self.alloc)?;
+        work::ready(&mut self.slot, self.alloc)?;
         match self.owner(session) {
             Owner::Now => Ok(()),
             Owner::Tx => seats::reserve(&mut self.seats, session, intents),
@@ -403,7 +402,7 @@ impl Branches {
         ensures err { OnErr result (self.new.state ≡ self.old.state) }
     {
         self.branches.reserve(1)?;
-        ready(&mut self.slot, self.alloc)?;
+        work::ready(&mut self.slot, self.alloc)?;
         let xid = xid.copied(self.alloc)?;
         self.place(session, xid);
         Ok(())
@@ -419,9 +418,9 @@ impl Branches {
         if table::status(&self.branches, xid) != 0 {
             return Ok(());
         }
-        ready(&mut self.slot, self.alloc)?;
+        work::ready(&mut self.slot, self.alloc)?;
         match self.slot.take() {
-            Some(slot) => join(&mut self.branches, &mut self.seats, session, xid, slot),
+            Some(slot) => work::join(&mut self.branches, &mut self.seats, session, xid, slot),
             None => unreachable!(),
         }
         Ok(())
@@ -469,7 +468,7 @@ impl Branches {
         if table::is_prepared(&self.branches, xid) {
             return Some(409);
         }
-        if is_unfit(how, table::is_linked(&self.branches, xid, session)) {
+        if work::is_unfit(how, table::is_linked(&self.branches, xid, session)) {
             return Some(409);
         }
         if how == Start::New && self.branches.entries().len() >= MOST {
@@ -507,120 +506,4 @@ impl Branches {
             None => false,
         }
     }
-}
-
-/// Makes room for one association.
-fn ready(slot: &mut Option<Slot>, alloc: Global) -> Result<(), NoMemory>
-    ensures ok { OnOk result (is_some slot.new ≡ true) }
-    ensures kept { is_some slot.old ≡ true → (is_some slot.new ≡ true) × IsOk result }
-{
-    if slot.is_none() {
-        *slot = Some(Slot::new(alloc)?);
-    }
-    Ok(())
-}
-
-/// A session begins a new branch.
-fn begin(
-    branches: &mut XidMap<Branch>,
-    seats: &mut SortedMap<u64, Seat>,
-    alloc: Global,
-    session: u64,
-    xid: Xid,
-    slot: Slot,
-)
-    requires new { find xid (branches_of branches.old.entries) ≡ None }
-    requires room { 0 < branches.old.room }
-    requires below { AllBelow (length branches.old.entries) (seats_of seats.old.entries) }
-    ensures state { state_of branches.new.entries seats.new.entries ≡ placed session xid (state_of branches.old.entries seats.old.entries) }
-    ensures below { AllBelow (length branches.new.entries) (seats_of seats.new.entries) }
-{
-    let place = table::begin(branches, alloc, session, xid, slot);
-    seats::turn_all(seats, Turn::Push { place });
-    seats::turn_one(seats, session, Turn::Activate { place });
-}
-
-/// A session joins a branch that it isn't associated with.
-fn join(
-    branches: &mut XidMap<Branch>,
-    seats: &mut SortedMap<u64, Seat>,
-    session: u64,
-    xid: &Xid,
-    slot: Slot,
-)
-    requires there { is_some (find xid.now (branches_of branches.old.entries)) ≡ true }
-    requires free { linked_in session (find xid.now (branches_of branches.old.entries)) ≡ false }
-    requires below { AllBelow (length branches.old.entries) (seats_of seats.old.entries) }
-    ensures state { state_of branches.new.entries seats.new.entries ≡ joined_in session xid.now (state_of branches.old.entries seats.old.entries) }
-    ensures below { AllBelow (length branches.new.entries) (seats_of seats.new.entries) }
-{
-    let place = table::place_of(branches, xid);
-    table::join(branches, xid, session, slot);
-    seats::turn_one(seats, session, Turn::Activate { place });
-}
-
-/// A session's association with a branch ends or is suspended; the mark that the branch has then, or 0.
-fn part(
-    branches: &mut XidMap<Branch>,
-    seats: &mut SortedMap<u64, Seat>,
-    session: u64,
-    xid: &Xid,
-    how: End,
-) -> Status
-    requires there { is_some (find xid.now (branches_of branches.old.entries)) ≡ true }
-    requires below { AllBelow (length branches.old.entries) (seats_of seats.old.entries) }
-    ensures status { result ≡ end_status how session (find xid.now (branches_of branches.old.entries)) }
-    ensures state { state_of branches.new.entries seats.new.entries ≡ ended how session xid.now (state_of branches.old.entries seats.old.entries) }
-    ensures below { AllBelow (length branches.new.entries) (seats_of seats.new.entries) }
-{
-    let place = table::place_of(branches, xid);
-    seats::turn_one(seats, session, Turn::Leave { place });
-    match how {
-        End::Suspend => table::status(branches, xid),
-        End::Success => {
-            let change = Change::Part {
-                session,
-                fails: false,
-            };
-            table::change_one(branches, xid, change)
-        }
-        End::Fail => {
-            let change = Change::Part {
-                session,
-                fails: true,
-            };
-            table::change_one(branches, xid, change)
-        }
-    }
-}
-
-/// Takes a branch out; its intents.
-fn finish(branches: &mut XidMap<Branch>, seats: &mut SortedMap<u64, Seat>, xid: &Xid) -> Intents
-    requires there { is_some (find xid.now (branches_of branches.old.entries)) ≡ true }
-    requires below { AllBelow (length branches.old.entries) (seats_of seats.old.entries) }
-    ensures intents { Some result.items ≡ option_map intents_of (find xid.now (branches_of branches.old.entries)) }
-    ensures state { state_of branches.new.entries seats.new.entries ≡ finished xid.now (state_of branches.old.entries seats.old.entries) }
-    ensures below { AllBelow (length branches.new.entries) (seats_of seats.new.entries) }
-{
-    let (place, intents) = table::finish(branches, xid);
-    seats::turn_all(seats, Turn::Pull { place });
-    intents
-}
-
-/// Whether resume finds no association, or join finds one.
-fn is_unfit(how: Start, linked: bool) -> bool
-    ensures { result ≡ is_unfit how linked }
-{
-    match how {
-        Start::New => false,
-        Start::Join => linked,
-        Start::Resume => !linked,
-    }
-}
-
-/// Whether one phase finds a prepared branch, or two find one that isn't.
-fn is_unphased(one_phase: bool, prepared: bool) -> bool
-    ensures { result ≡ is_unphased one_phase prepared }
-{
-    if one_phase { prepared } else { !prepared }
 }

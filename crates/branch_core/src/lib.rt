@@ -8,6 +8,7 @@ mod seats;
 mod table;
 #[cfg(test)]
 mod tests;
+mod work;
 
 pub use branch_intents::{Intent, Intents};
 pub use branches::Branches;

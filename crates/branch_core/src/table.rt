@@ -4,7 +4,7 @@ ghost use Rattle.std.specs.Option.{option_map};
 ghost use Rattle.std.specs.List.{list_any};
 ghost use Rattle.number_tree.specs.Numbers.{has};
 ghost use Rattle.sorted_map.specs.Map.{changed, changed_at, seen, value_at, index_of};
-ghost use Rattle.xid_map.specs.Xids.{xid_order, find, put, out};
+ghost use Rattle.branch_core.specs.Xids.{xid_order, find, put, out};
 ghost use Rattle.branch_core.specs.Held.{held, fresh, joined, given, emptied, intents_of, is_undone, changed_by};
 ghost use Rattle.branch_core.specs.State.{branches_of, intent_rooms, room_in};
 ghost use Rattle.branch_core.specs.Acts.{is_undone_at, names_at, prepared_xids};
@@ -16,23 +16,23 @@ use amqp_values::Xid;
 use branch_intents::{Intent, Intents};
 use number_tree::Slot;
 use octet_reading::{NoMemory, Text};
+use sorted_map::SortedMap;
 use std::alloc::Global;
-use xid_map::XidMap;
 
 /// The branch with a name.
-pub(crate) fn branch<'a>(branches: &'a XidMap<Branch>, xid: &Xid) -> Option<&'a Branch>
+pub(crate) fn branch<'a>(branches: &'a SortedMap<Xid, Branch>, xid: &Xid) -> Option<&'a Branch>
     ensures { option_map (λ b. held b.now) result ≡ find xid.now (branches_of branches.now.entries) }
 {
     branches.get(xid)
 }
 
-pub(crate) fn is_there(branches: &XidMap<Branch>, xid: &Xid) -> bool
+pub(crate) fn is_there(branches: &SortedMap<Xid, Branch>, xid: &Xid) -> bool
     ensures { result ≡ is_some (find xid.now (branches_of branches.now.entries)) }
 {
     branch(branches, xid).is_some()
 }
 
-pub(crate) fn status(branches: &XidMap<Branch>, xid: &Xid) -> Status
+pub(crate) fn status(branches: &SortedMap<Xid, Branch>, xid: &Xid) -> Status
     ensures { result ≡ status_in (find xid.now (branches_of branches.now.entries)) }
 {
     match branch(branches, xid) {
@@ -41,7 +41,7 @@ pub(crate) fn status(branches: &XidMap<Branch>, xid: &Xid) -> Status
     }
 }
 
-pub(crate) fn is_prepared(branches: &XidMap<Branch>, xid: &Xid) -> bool
+pub(crate) fn is_prepared(branches: &SortedMap<Xid, Branch>, xid: &Xid) -> bool
     ensures { result ≡ prepared_in (find xid.now (branches_of branches.now.entries)) }
 {
     match branch(branches, xid) {
@@ -51,7 +51,7 @@ pub(crate) fn is_prepared(branches: &XidMap<Branch>, xid: &Xid) -> bool
 }
 
 /// The place of a branch that is there, in order of xid, counted from 0.
-pub(crate) fn place_of(branches: &XidMap<Branch>, xid: &Xid) -> usize
+pub(crate) fn place_of(branches: &SortedMap<Xid, Branch>, xid: &Xid) -> usize
     requires { is_some (find xid.now (branches_of branches.now.entries)) ≡ true }
     ensures place { result ≡ index_of xid_order xid.now (branches_of branches.now.entries) }
     ensures bound { result < length branches.now.entries }
@@ -63,7 +63,7 @@ pub(crate) fn place_of(branches: &XidMap<Branch>, xid: &Xid) -> usize
 }
 
 /// Whether any session is associated with a branch.
-pub(crate) fn is_associated(branches: &XidMap<Branch>, xid: &Xid) -> bool
+pub(crate) fn is_associated(branches: &SortedMap<Xid, Branch>, xid: &Xid) -> bool
     ensures { result ≡ associated_in (find xid.now (branches_of branches.now.entries)) }
 {
     match branch(branches, xid) {
@@ -73,7 +73,7 @@ pub(crate) fn is_associated(branches: &XidMap<Branch>, xid: &Xid) -> bool
 }
 
 /// Whether a session is associated with a branch.
-pub(crate) fn is_linked(branches: &XidMap<Branch>, xid: &Xid, session: u64) -> bool
+pub(crate) fn is_linked(branches: &SortedMap<Xid, Branch>, xid: &Xid, session: u64) -> bool
     ensures { result ≡ linked_in session (find xid.now (branches_of branches.now.entries)) }
 {
     match branch(branches, xid) {
@@ -84,7 +84,7 @@ pub(crate) fn is_linked(branches: &XidMap<Branch>, xid: &Xid, session: u64) -> b
 
 /// What a branch that is there will do, as a copy.
 pub(crate) fn intents(
-    branches: &XidMap<Branch>,
+    branches: &SortedMap<Xid, Branch>,
     alloc: Global,
     xid: &Xid,
 ) -> Result<Intents, NoMemory>
@@ -97,7 +97,7 @@ pub(crate) fn intents(
     }
 }
 
-pub(crate) fn standing(branches: &XidMap<Branch>, xid: &Xid) -> Standing
+pub(crate) fn standing(branches: &SortedMap<Xid, Branch>, xid: &Xid) -> Standing
     ensures { result ≡ standing_in (find xid.now (branches_of branches.now.entries)) }
 {
     match branch(branches, xid) {
@@ -119,7 +119,11 @@ pub(crate) fn standing(branches: &XidMap<Branch>, xid: &Xid) -> Standing
 }
 
 /// Does something to a branch; nothing where it isn't there. The mark that it has then, or 0.
-pub(crate) fn change_one(branches: &mut XidMap<Branch>, xid: &Xid, change: Change<'_>) -> Status
+pub(crate) fn change_one(
+    branches: &mut SortedMap<Xid, Branch>,
+    xid: &Xid,
+    change: Change<'_>,
+) -> Status
     ensures branches { branches_of branches.new.entries ≡ changed xid_order xid.now (changed_by change.entry) (branches_of branches.old.entries) }
     ensures status { result ≡ status_in (option_map (changed_by change.entry) (find xid.now (branches_of branches.old.entries))) }
 {
@@ -134,7 +138,7 @@ pub(crate) fn change_one(branches: &mut XidMap<Branch>, xid: &Xid, change: Chang
 }
 
 /// Does something to all branches.
-pub(crate) fn change_all(branches: &mut XidMap<Branch>, change: Change<'_>)
+pub(crate) fn change_all(branches: &mut SortedMap<Xid, Branch>, change: Change<'_>)
     ensures { branches_of branches.new.entries ≡ seen (changed_by change.entry) (branches_of branches.old.entries) }
 {
     for index in 0..branches.entries().len() {
@@ -143,7 +147,7 @@ pub(crate) fn change_all(branches: &mut XidMap<Branch>, change: Change<'_>)
 }
 
 /// A session joins a branch that it isn't associated with.
-pub(crate) fn join(branches: &mut XidMap<Branch>, xid: &Xid, session: u64, slot: Slot)
+pub(crate) fn join(branches: &mut SortedMap<Xid, Branch>, xid: &Xid, session: u64, slot: Slot)
     requires { linked_in session (find xid.now (branches_of branches.old.entries)) ≡ false }
     ensures { branches_of branches.new.entries ≡ changed xid_order xid.now (joined session) (branches_of branches.old.entries) }
 {
@@ -154,7 +158,7 @@ pub(crate) fn join(branches: &mut XidMap<Branch>, xid: &Xid, session: u64, slot:
 }
 
 /// The branch at a place gets an intent more.
-pub(crate) fn give(branches: &mut XidMap<Branch>, place: usize, intent: Intent)
+pub(crate) fn give(branches: &mut SortedMap<Xid, Branch>, place: usize, intent: Intent)
     requires place { place < length branches.old.entries }
     requires room { 0 < room_in (value_at (intent_rooms branches.old.entries) place) }
     ensures branches { branches_of branches.new.entries ≡ changed_at place (given intent) (branches_of branches.old.entries) }
@@ -165,7 +169,7 @@ pub(crate) fn give(branches: &mut XidMap<Branch>, place: usize, intent: Intent)
 
 /// Makes room for so many more intents in the branch at a place.
 pub(crate) fn reserve(
-    branches: &mut XidMap<Branch>,
+    branches: &mut SortedMap<Xid, Branch>,
     place: usize,
     more: usize,
 ) -> Result<(), NoMemory>
@@ -179,7 +183,7 @@ pub(crate) fn reserve(
 
 /// A session begins a new branch; its place.
 pub(crate) fn begin(
-    branches: &mut XidMap<Branch>,
+    branches: &mut SortedMap<Xid, Branch>,
     alloc: Global,
     session: u64,
     xid: Xid,
@@ -196,7 +200,7 @@ pub(crate) fn begin(
 }
 
 /// Takes a branch out; its place and its intents.
-pub(crate) fn finish(branches: &mut XidMap<Branch>, xid: &Xid) -> (usize, Intents)
+pub(crate) fn finish(branches: &mut SortedMap<Xid, Branch>, xid: &Xid) -> (usize, Intents)
     requires { is_some (find xid.now (branches_of branches.old.entries)) ≡ true }
     ensures branches { branches_of branches.new.entries ≡ out xid.now (branches_of branches.old.entries) }
     ensures place { result.0 ≡ index_of xid_order xid.now (branches_of branches.old.entries) }
@@ -227,7 +231,7 @@ fn into_intents(branch: Branch) -> Intents
 }
 
 /// Takes the intents of the branch at a place out.
-pub(crate) fn take(branches: &mut XidMap<Branch>, alloc: Global, place: usize) -> Intents
+pub(crate) fn take(branches: &mut SortedMap<Xid, Branch>, alloc: Global, place: usize) -> Intents
     requires { place < length branches.old.entries }
     ensures intents { Some result.items ≡ option_map intents_of (value_at (branches_of branches.old.entries) place) }
     ensures branches { branches_of branches.new.entries ≡ changed_at place emptied (branches_of branches.old.entries) }

@@ -225,47 +225,6 @@ fn words_of_a_topic_key(rt: HostRuntime) -> Result<(), Fail> {
 }
 
 #[test]
-fn exchanges_that_are_there_from_the_start(rt: HostRuntime) -> Result<(), Fail> {
-    let alloc = rt.alloc();
-    let mut exchanges = Exchanges::new(alloc)?;
-    assert!(rt;
-        bind(
-            &mut exchanges,
-            alloc,
-            &[
-                ("amq.topic", "nyse", "stock.*.nyse", NONE),
-                ("amq.topic", "all", "#", NONE),
-                ("amq.match", "hot", "", ANY),
-                ("amq.direct", "q", "z", NONE),
-                ("amq.direct", "p", "z", NONE),
-                ("amq.direct", "o", "y", NONE),
-                ("amq.fanout", "q", "1", NONE),
-                ("amq.fanout", "q", "2", NONE),
-            ]
-        )?
-    );
-    assert!(rt; !bind(&mut exchanges, alloc, &[("e", "q", "", NONE)])?);
-    assert!(rt;
-        go(
-            &exchanges,
-            alloc,
-            &[
-                ("amq.topic", "stock.ibm.nyse", NONE, "all nyse "),
-                ("amq.topic", "stock.ibm.lse", NONE, "all "),
-                ("amq.match", "", URGENT, "hot "),
-                ("amq.match", "", ONE, ""),
-                ("amq.direct", "z", NONE, "p q "),
-                ("amq.direct", "x", NONE, ""),
-                ("amq.fanout", "x", NONE, "q "),
-                ("missing", "z", NONE, ""),
-            ]
-        )?
-    );
-    assert_eq!(rt; exchanges.sizes(), (4, 8));
-    Ok(())
-}
-
-#[test]
 fn an_exchange_ends_with_its_last_binding(rt: HostRuntime) -> Result<(), Fail> {
     let alloc = rt.alloc();
     let mut exchanges = Exchanges::new(alloc)?;
@@ -391,17 +350,33 @@ fn exchanges_and_bindings_by_name(rt: HostRuntime) -> Result<(), Fail> {
 fn no_queue_found_and_an_alternate_exchange(rt: HostRuntime) -> Result<(), Fail> {
     let alloc = rt.alloc();
     let mut exchanges = Exchanges::new(alloc)?;
-    assert!(rt; bind(&mut exchanges, alloc, &[("amq.fanout", "q", "", NONE)])?);
+    assert!(rt;
+        bind(
+            &mut exchanges,
+            alloc,
+            &[
+                ("amq.direct", "q", "z", NONE),
+                ("amq.direct", "p", "z", NONE),
+                ("amq.direct", "o", "y", NONE),
+                ("amq.fanout", "q", "1", NONE),
+                ("amq.fanout", "q", "2", NONE),
+            ]
+        )?
+    );
+    assert!(rt; !bind(&mut exchanges, alloc, &[("e", "q", "", NONE)])?);
     assert!(rt;
         go(
             &exchanges,
             alloc,
             &[
-                ("amq.direct", "z", NONE, ""),
-                ("amq.fanout", "z", NONE, "q ")
+                ("amq.direct", "z", NONE, "p q "),
+                ("amq.direct", "x", NONE, ""),
+                ("amq.fanout", "x", NONE, "q "),
+                ("missing", "z", NONE, ""),
             ]
         )?
     );
+    assert_eq!(rt; exchanges.sizes(), (4, 5));
     Ok(())
 }
 
@@ -428,6 +403,7 @@ fn publishing_in_a_tx_over_a_lost_connection(rt: HostRuntime) -> Result<(), Fail
                 ("amq.topic", "stock.ibm.nyse", NONE, "all nyse "),
                 ("amq.topic", "stock.ibm.lse", NONE, "all "),
                 ("amq.match", "", URGENT, "hot "),
+                ("amq.match", "", ONE, ""),
             ]
         )?
     );

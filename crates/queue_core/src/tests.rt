@@ -185,6 +185,7 @@ fn is_plain(queues: &Queues, name: &Text) -> bool {
 fn queues_come_by_name_and_keep_their_marks(rt: HostRuntime) -> Result<(), Fail> {
     let mut queues = Queues::new(rt.alloc())?;
     three(&mut queues, rt.alloc())?;
+    assert!(rt; queues.lists() > 2);
     let name = Text::from_text(rt.alloc(), "aaa")?;
     assert_eq!(rt; names(&queues), 321);
     queues.plain(&name);
@@ -192,5 +193,69 @@ fn queues_come_by_name_and_keep_their_marks(rt: HostRuntime) -> Result<(), Fail>
     queues.delete(&name);
     assert!(rt; !queues.is_alternate(&name));
     assert_eq!(rt; names(&queues), 21);
+    Ok(())
+}
+
+/// Accepts all that a session holds, and tells how many copies that were.
+fn accept_all<L: Ledger>(queues: &mut Queues, session: u64, steps: &mut Steps<L>) -> u64 {
+    let mut accepted: u64 = 0;
+    for _ in 0..100u8 {
+        let Some(number) = queues.first_held(session) else {
+            break;
+        };
+        if queues.contains(number) {
+            queues.accept(number, steps);
+        }
+        accepted = accepted.saturating_add(1);
+    }
+    accepted
+}
+
+/// Declares a queue where room was made first and it isn't there.
+fn place(queues: &mut Queues, alloc: Global, name: &str) -> Result<(), NoMemory> {
+    queues.room(1, 0)?;
+    let marks = marks(alloc, name)?;
+    let name = Text::from_text(alloc, name)?;
+    match queues.marks(&name) {
+        Some(_) => drop((name, marks)),
+        None => queues.place(name, marks),
+    }
+    Ok(())
+}
+
+/// A queue of three copies, all held by a session.
+fn hold_three<L: Ledger>(
+    queues: &mut Queues,
+    alloc: Global,
+    steps: &mut Steps<L>,
+) -> Result<(), NoMemory> {
+    place(queues, alloc, "q")?;
+    for _ in 0..3u8 {
+        add(queues, alloc, "q")?;
+        acquire(queues, alloc, "q", 7, steps)?;
+    }
+    Ok(())
+}
+
+/// How many copies a session accepted of three that it held, and what the queue counts then.
+fn accepted<L: Ledger>(alloc: Global, blank: Blank) -> Result<(u64, Option<(u64, u64)>), NoMemory>
+    requires name { blank.name ≡ L.name }
+    requires parts { blank.parts ≡ L.parts }
+    requires some { 0 < L.parts }
+{
+    let mut steps = Steps::<L>::open(blank);
+    let mut queues = Queues::new(alloc)?;
+    hold_three(&mut queues, alloc, &mut steps)?;
+    let count = accept_all(&mut queues, 7, &mut steps);
+    let counts = counts(&queues, alloc, "q")?;
+    Ok((count, counts))
+}
+
+#[test]
+fn a_wide_accept(rt: HostRuntime) -> Result<(), Fail> {
+    assert_eq!(rt;
+        accepted::<Brand>(rt.alloc(), Blank::new(1))?,
+        (3, Some((0, 0)))
+    );
     Ok(())
 }

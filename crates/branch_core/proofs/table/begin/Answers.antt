@@ -1,7 +1,7 @@
 -- The branch is put in.
 use Rattle.std.proofs.Common.{◌∙◌, ap, sym}
 use Rattle.sorted_map.proofs.Showing.{seen_put, seen_index}
-use Rattle.xid_map.specs.Xids.{xid_order, put}
+use Rattle.branch_core.specs.Xids.{xid_order, put}
 use Rattle.branch_core.specs.Held.{Held, held}
 use Rattle.branch_core.specs.State.{branches_of}
 use Rattle.branch_core.proofs.Finding.{not_found}

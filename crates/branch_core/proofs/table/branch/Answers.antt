@@ -2,7 +2,7 @@
 use Rattle.std.proofs.Common.{◌∙◌, ap, sym}
 use Rattle.sorted_map.proofs.Showing.{seen_through, seen_find}
 use Rattle.std.specs.Option.{option_map}
-use Rattle.xid_map.specs.Xids.{xid_order}
+use Rattle.branch_core.specs.Xids.{xid_order}
 use Rattle.branch_core.specs.Held.{held}
 use Rattle.branch_core.proofs.table.branch.Goals as goal
 

@@ -2,7 +2,7 @@
 use Rattle.std.proofs.Common.{◌∙◌, Option, ap, sym}
 use Rattle.sorted_map.proofs.Showing.{seen_find, seen_changed, unchanged}
 use Rattle.std.specs.Option.{option_map}
-use Rattle.xid_map.specs.Xids.{xid_order}
+use Rattle.branch_core.specs.Xids.{xid_order}
 use Rattle.branch_core.specs.Held.{Held, held, changed_by}
 use Rattle.branch_core.specs.State.{branches_of}
 use Rattle.branch_core.specs.Faults.{status_in}

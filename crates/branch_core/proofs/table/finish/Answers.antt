@@ -2,7 +2,7 @@
 use Rattle.std.proofs.Common.{◌∙◌, Some, ap, sym}
 use Rattle.std.specs.Option.{option_map}
 use Rattle.sorted_map.proofs.Showing.{seen_find, seen_out}
-use Rattle.xid_map.specs.Xids.{xid_order}
+use Rattle.branch_core.specs.Xids.{xid_order}
 use Rattle.branch_core.specs.Held.{held, intents_of}
 use Rattle.branch_core.specs.State.{branches_of}
 use Rattle.branch_core.proofs.Finding.{is_found}

@@ -1,7 +1,7 @@
 -- The place is the same among what is seen.
 use Rattle.std.proofs.Common.{◌∙◌, sym}
 use Rattle.sorted_map.proofs.Showing.{seen_index}
-use Rattle.xid_map.specs.Xids.{xid_order}
+use Rattle.branch_core.specs.Xids.{xid_order}
 use Rattle.branch_core.specs.Held.{held}
 use Rattle.branch_core.proofs.Finding.{is_found}
 use Rattle.branch_core.proofs.table.place_of.Goals as goal

@@ -1,7 +1,7 @@
 -- As many branches.
 use Rattle.std.proofs.Common.{◌∙◌, ℕ, length, ap, sym, subst}
 use Rattle.sorted_map.proofs.Showing.{length_changed}
-use Rattle.xid_map.specs.Xids.{xid_order}
+use Rattle.branch_core.specs.Xids.{xid_order}
 use Rattle.branch_core.specs.State.{AllBelow, branches_of, seats_of}
 use Rattle.branch_core.proofs.Below.{same_count}
 use Rattle.branch_core.proofs.branches.Branches.set_timeout.Goals as goal

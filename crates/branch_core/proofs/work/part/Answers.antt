@@ -1,11 +1,11 @@
 -- As many branches, and a session active at one less.
 use Rattle.std.proofs.Common.{◌∙◌, ℕ, length, ap, sym, subst}
 use Rattle.sorted_map.proofs.Showing.{length_changed}
-use Rattle.xid_map.specs.Xids.{xid_order}
+use Rattle.branch_core.specs.Xids.{xid_order}
 use Rattle.branch_core.specs.State.{AllBelow, branches_of, seats_of}
 use Rattle.branch_core.specs.Acts.{left}
 use Rattle.branch_core.proofs.Below.{below_changed, below_left, same_count}
-use Rattle.branch_core.proofs.branches.part.Goals as goal
+use Rattle.branch_core.proofs.work.part.Goals as goal
 
 pub returns-in-Suspend-clause-below : goal.returns-in-Suspend-clause-below
 returns-in-Suspend-clause-below c =

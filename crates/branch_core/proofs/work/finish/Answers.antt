@@ -3,7 +3,7 @@ use Rattle.std.proofs.Common.{length, sym, subst}
 use Rattle.branch_core.specs.State.{AllBelow, seats_of}
 use Rattle.branch_core.specs.Acts.{pulled}
 use Rattle.branch_core.proofs.Below.{below_seen, below_pulled}
-use Rattle.branch_core.proofs.branches.finish.Goals as goal
+use Rattle.branch_core.proofs.work.finish.Goals as goal
 
 pub returns-clause-below : goal.returns-clause-below
 returns-clause-below c =

@@ -1,12 +1,12 @@
 -- As many branches, and a session active at one more.
 use Rattle.std.proofs.Common.{◌∙◌, ℕ, length, ap, sym, subst}
 use Rattle.sorted_map.proofs.Showing.{length_changed}
-use Rattle.xid_map.specs.Xids.{xid_order}
+use Rattle.branch_core.specs.Xids.{xid_order}
 use Rattle.branch_core.specs.Held.{joined}
 use Rattle.branch_core.specs.State.{AllBelow, branches_of, seats_of}
 use Rattle.branch_core.specs.Acts.{activate}
 use Rattle.branch_core.proofs.Below.{below_changed, below_activate, same_count}
-use Rattle.branch_core.proofs.branches.join.Goals as goal
+use Rattle.branch_core.proofs.work.join.Goals as goal
 
 pub returns-clause-below : goal.returns-clause-below
 returns-clause-below c =

@@ -5,7 +5,7 @@ use Rattle.sorted_map.specs.Map.{seen, changed}
 use Rattle.branch_core.specs.State.{AllBelow, seats_of}
 use Rattle.branch_core.specs.Acts.{activate, pushed}
 use Rattle.branch_core.proofs.Below.{below_seen, below_changed, below_activate, below_pushed}
-use Rattle.branch_core.proofs.branches.begin.Goals as goal
+use Rattle.branch_core.proofs.work.begin.Goals as goal
 
 pub returns-clause-below : goal.returns-clause-below
 returns-clause-below c =
