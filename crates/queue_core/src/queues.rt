@@ -307,6 +307,13 @@ impl Queues {
         self.copies.lists()
     }
 
+    /// How many queues there are. Takes no memory.
+    pub fn len(&self) -> usize
+        ensures { result ≡ length self.now.entries }
+    {
+        self.names.entries().len()
+    }
+
     /// The names of all queues, in order. Takes no memory.
     pub fn names(&self) -> QueueNames<'_>
         ensures names { result ≡ names_of self.now.entries }

@@ -1,0 +1,5 @@
+pub mod Counting
+pub mod Fine
+pub mod Results
+pub mod Sounding
+pub mod Writing

@@ -1,0 +1,13 @@
+-- The session is changed where it stands.
+use Rattle.std.proofs.Common.{ap, ℕ, ◌∙◌}
+use Rattle.std.specs.Ordering.{nat_cmp}
+use Rattle.broker_core.specs.Edits.{as_given}
+use Rattle.broker_core.proofs.Writing.{written}
+use Rattle.broker_core.proofs.acts.give.Goals as goal
+
+pub returns-in-Some : goal.returns-in-Some
+returns-in-Some c =
+    let old = c.value_mut-state.result.now in
+    written nat_cmp c.args.session as_given c.args.sessions.now.entries c.in-Some.index old (record old { given = c.saturating_add-state.result; uncompleted = c.saturating_add-state-in-Some.result }) c.in-Some.ensures.index c.value_mut-state.ensures.value c.in-Some.ensures.some.1
+    (ap (λ (n : ℕ). record old { given = n; uncompleted = c.saturating_add-state-in-Some.result }) c.saturating_add-state.ensures
+    ∙ ap (λ (n : ℕ). record (as_given old) { uncompleted = n }) c.saturating_add-state-in-Some.ensures)
