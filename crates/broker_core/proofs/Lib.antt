@@ -1,4 +1,5 @@
 pub mod Counting
+pub mod Ending
 pub mod Fine
 pub mod Results
 pub mod Sounding

@@ -1,5 +1,6 @@
 pub mod State
 pub mod Edits
+pub mod Ends
 pub mod Rooms
 pub mod Sound
 pub mod Verdict

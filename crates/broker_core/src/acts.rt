@@ -1,10 +1,12 @@
 //! Doing what was decided.
-ghost use Rattle.std.specs.Prelude.{◌≡◌, ◌+◌, ◌∷◌, ◌<◌, ◌≤◌, List, [], None, Some, IfSome, length};
+ghost use Rattle.std.specs.Prelude.{◌≡◌, ◌+◌, ◌∷◌, ◌<◌, ◌≤◌, ◌==◌, List, [], false, max, position, None, Some, IfSome, IsTrue, length};
 ghost use Rattle.std.specs.Ordering.{nat_cmp};
 ghost use Rattle.sorted_map.specs.Map.{changed};
 ghost use Rattle.exchange_core.specs.Exchanges.{with_binding};
 ghost use Rattle.name_map.specs.Named as named;
 ghost use Rattle.broker_core.specs.declared.edit.Edit.{Edit as AnyEdit};
+ghost use Rattle.broker_core.specs.State.{Stand};
+ghost use Rattle.broker_core.specs.Ends.{own_names, drops, DropsFirst, Ended, Passes};
 ghost use Rattle.broker_core.specs.Sound.{EditFine, AllFine};
 ghost use Rattle.broker_core.specs.Edits.{as_failed, as_completed, as_given, given_all, PlacesExchange, PlacesQueue, Acted, ActedAll, Applied, HasRoom, with_owned};
 
@@ -167,7 +169,7 @@ impl Broker {
     /// Does what was decided: the commands that it gives. Takes no memory.
     pub fn apply(&mut self, plan: Plan) -> Given
         requires { HasRoom plan.edits self.old }
-        ensures applied { plan.moment ≡ None → Applied plan self.old self.new }
+        ensures applied { (next : Stand) × Applied plan self.old next × Passes plan.moment next self.new }
         ensures given { result.items ≡ plan.given }
     {
         let Plan {
@@ -176,28 +178,58 @@ impl Broker {
             moment,
         } = plan;
         self.act_all(edits);
-        give_all(&mut self.sessions, given.as_slice());
+        self.give_all(given.as_slice());
+        self.pass(moment);
+        given
+    }
+
+    /// Sessions were given these commands.
+    fn give_all(&mut self, given: &[(u64, Unit)])
+        ensures exchanges { self.new.exchanges ≡ self.old.exchanges }
+        ensures queues { self.new.queues ≡ self.old.queues }
+        ensures sessions { self.new.sessions.entries ≡ given_all given.now self.old.sessions.entries }
+        ensures owned { self.new.owned ≡ self.old.owned }
+        ensures time { self.new.time ≡ self.old.time }
+    {
+        give_all(&mut self.sessions, given);
+    }
+
+    /// A session ends, or the time has come.
+    fn pass(&mut self, moment: Option<Moment>)
+        ensures { Passes moment self.old self.new }
+    {
         match moment {
             Some(Moment::End { session }) => self.end(session),
             Some(Moment::Tick { now }) => self.tick(now),
             None => {}
         }
-        given
     }
 
     /// A session ends, and its own queues with it.
-    fn end(&mut self, session: u64) {
-        for _ in 0..self.owned.entries().len() {
-            if !self.drop_own(session) {
-                break;
-            }
-        }
+    fn end(&mut self, session: u64)
+        ensures { Ended session self.old self.new }
+    {
+        self.drop_all(session);
         drop(self.sessions.take(&session));
     }
 
-    /// Drops a queue that is a session's own; false where none is.
-    fn drop_own(&mut self, session: u64) -> bool {
-        let Some(index) = owned_by(self.owned.entries(), session) else {
+    /// Drops the queues that are a session's own.
+    fn drop_all(&mut self, session: u64)
+        ensures { ActedAll (drops (own_names session self.old.owned.entries)) self.old self.new }
+    {
+        let mut more = true;
+        while more {
+            more = self.drop_first(session);
+        }
+    }
+
+    /// Drops the first queue that is a session's own; false where none is.
+    fn drop_first(&mut self, session: u64) -> bool
+        ensures some { IsTrue result → DropsFirst session self.old self.new }
+        ensures none { result ≡ false → own_names session self.old.owned.entries ≡ [] }
+        ensures same { result ≡ false → self.new ≡ self.old }
+    {
+        let Some(index) = first_own(self.owned.entries(), session) else {
             return false;
         };
         let (name, _) = self.owned.take_at(index);
@@ -207,7 +239,9 @@ impl Broker {
     }
 
     /// The time has come.
-    fn tick(&mut self, now: u64) {
+    fn tick(&mut self, now: u64)
+        ensures { self.new ≡ record self.old { time = max self.old.time now } }
+    {
         if self.time < now {
             self.time = now;
         }
@@ -215,8 +249,9 @@ impl Broker {
 }
 
 /// The first queue that is a session's own.
-fn owned_by(owned: &[(Text, u64)], session: u64) -> Option<usize>
-    ensures { IfSome result (λ index. index < length owned.now) }
+fn first_own(owned: &[(Text, u64)], session: u64) -> Option<usize>
+    ensures place { result ≡ position (λ e. e.1 == session) owned.now }
+    ensures bound { IfSome result (λ index. index < length owned.now) }
 {
     owned.iter().position(|entry| entry.1 == session)
 }
