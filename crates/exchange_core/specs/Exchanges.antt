@@ -34,11 +34,6 @@ abbrev pub rows_in : Option (ExchangeMarks × ℕ) → List Rowed → List Rowed
 rows_in None rows = []
 rows_in (Some exchange) rows = filter (is_of exchange.1) rows
 
--- the bindings of a queue at an exchange, where it is there
-abbrev pub rows_at : List ℕ → Option (ExchangeMarks × ℕ) → List Rowed → List Rowed
-rows_at queue None rows = []
-rows_at queue (Some exchange) rows = filter (is_of_queue exchange.1 queue) rows
-
 -- the bindings of the others
 abbrev pub rows_without : Option (ExchangeMarks × ℕ) → List Rowed → List Rowed
 rows_without None rows = rows

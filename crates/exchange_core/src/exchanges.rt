@@ -1,12 +1,12 @@
 //! Exchanges by name.
-ghost use Rattle.std.specs.Prelude.{◌≡◌, ◌+◌, ◌<◌, ◌≤◌, ℕ, ◌&&◌, [], length, filter, None, Some, OnOk, OnErr, IfOk, IfSome, IfNone, IsSome, IsTrue, ◌↔◌};
+ghost use Rattle.std.specs.Prelude.{◌≡◌, ◌+◌, ◌<◌, ◌≤◌, ℕ, ◌&&◌, [], length, filter, None, Some, OnOk, OnErr, IfOk, IsSome, IsTrue, ◌↔◌};
 ghost use Rattle.std.specs.Cmp.Lexicographic.{slice_cmp};
 ghost use Rattle.std.specs.List.Sorted.{IsStrictlySortedBy};
 ghost use Rattle.std.specs.Option.{option_copied};
 ghost use Rattle.std.specs.Ordering.{nat_cmp};
 ghost use Rattle.name_map.specs.Named.{Sorted, find, put, out};
 ghost use Rattle.binding_table.specs.Rows.{is_of};
-ghost use Rattle.exchange_core.specs.Exchanges.{marks_in, rows_in, rows_at, rows_without, names_of, has_alternate, routed, counting, bound_bits, with_binding, without_binding, is_there, after_unbinding, OwnRows, is_other, stays, first_marks, IsFirst, pairs_of};
+ghost use Rattle.exchange_core.specs.Exchanges.{marks_in, rows_in, rows_without, names_of, has_alternate, routed, counting, bound_bits, with_binding, without_binding, is_there, after_unbinding, OwnRows, is_other, stays, first_marks, IsFirst, pairs_of};
 
 use crate::iter::{ExchangeBindings, ExchangeNames};
 use crate::marks::{Binding, BoundBits, ExchangeMarks, Kind, Names};
@@ -240,28 +240,6 @@ impl Exchanges {
         match self.names.get(exchange) {
             Some(entry) => self.bindings.get(entry.1, queue, key).is_some(),
             None => false,
-        }
-    }
-
-    /// The bindings of an exchange, by queue and key; none where it isn't there. Takes no memory.
-    pub fn bindings_of(&self, exchange: &Text) -> Option<Rows<'_, Option<Value>>>
-        ensures some { IfSome result (λ rows. rows ≡ rows_in (find exchange.now self.now.entries) self.now.rows) }
-        ensures none { IfNone result (find exchange.now self.now.entries ≡ None) }
-    {
-        match self.names.get(exchange) {
-            Some(entry) => Some(self.bindings.of_exchange(entry.1)),
-            None => None,
-        }
-    }
-
-    /// The bindings of a queue at an exchange, by key; none where the exchange isn't there. Takes no memory.
-    pub fn bindings_at(&self, exchange: &Text, queue: &Text) -> Option<Rows<'_, Option<Value>>>
-        ensures some { IfSome result (λ rows. rows ≡ rows_at queue.now (find exchange.now self.now.entries) self.now.rows) }
-        ensures none { IfNone result (find exchange.now self.now.entries ≡ None) }
-    {
-        match self.names.get(exchange) {
-            Some(entry) => Some(self.bindings.of_queue(entry.1, queue)),
-            None => None,
         }
     }
 

@@ -8,7 +8,6 @@ mod routes;
 #[cfg(test)]
 mod tests;
 
-pub use binding_table::Rows as BindingRows;
 pub use exchanges::Exchanges;
 pub use iter::{ExchangeBindings, ExchangeNames};
 pub use marks::{Binding, BoundBits, ExchangeMarks, Kind, Names};

@@ -181,6 +181,20 @@ fn state(exchanges: &Exchanges, alloc: Global, name: &str) -> Result<(bool, bool
     Ok((exchanges.marks(&name).is_some(), exchanges.used(&name)))
 }
 
+/// Whether a queue is bound to an exchange with a key.
+fn has(
+    exchanges: &Exchanges,
+    alloc: Global,
+    exchange: &str,
+    queue: &str,
+    key: &str,
+) -> Result<bool, NoMemory> {
+    let exchange = Text::from_text(alloc, exchange)?;
+    let queue = Text::from_text(alloc, queue)?;
+    let key = Text::from_text(alloc, key)?;
+    Ok(exchanges.has(&exchange, &queue, &key))
+}
+
 /// The octets of a map with the one entry `a`, the octet 1.
 const ONE: &[u8] = b"\x00\x00\x00\x08\x00\x00\x00\x01\x01a\x02\x01";
 
@@ -242,7 +256,9 @@ fn an_exchange_ends_with_its_last_binding(rt: HostRuntime) -> Result<(), Fail> {
             ]
         )?
     );
+    assert!(rt; has(&exchanges, alloc, "e", "q", "a")?);
     assert!(rt; unbind(&mut exchanges, alloc, "e", "q", "a")?);
+    assert!(rt; !has(&exchanges, alloc, "e", "q", "a")?);
     assert!(rt; !unbind(&mut exchanges, alloc, "e", "q", "a")?);
     let q = Text::from_text(alloc, "q")?;
     exchanges.unbind_queue(&q);

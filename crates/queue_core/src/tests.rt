@@ -185,6 +185,7 @@ fn is_plain(queues: &Queues, name: &Text) -> bool {
 fn queues_come_by_name_and_keep_their_marks(rt: HostRuntime) -> Result<(), Fail> {
     let mut queues = Queues::new(rt.alloc())?;
     three(&mut queues, rt.alloc())?;
+    assert_eq!(rt; queues.len(), 3);
     assert!(rt; queues.lists() > 2);
     let name = Text::from_text(rt.alloc(), "aaa")?;
     assert_eq!(rt; names(&queues), 321);
