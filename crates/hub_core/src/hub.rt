@@ -43,9 +43,9 @@ impl<K: Keeper> Hub<K> {
         keeper
     }
 
-    /// Whether the event's rules are built: what `step` then promises is the whole truth.
-    pub fn covers(&self, event: &HubEvent) -> bool
-        ensures { (h : List Arrival) → Serves self.now h → result ≡ covered (world h) (state h) event.now }
+    /// Whether the event is built. What its step promises is the whole truth where the definitions cover it.
+    pub fn builds(&self, event: &HubEvent) -> bool
+        ensures { (h : List Arrival) → Serves self.now h → covered (world h) (state h) event.now ≡ true → result ≡ true }
     {
         self.state.covers(event)
     }

@@ -1,6 +1,5 @@
 -- Where an LF stands first, and what holds none.
-use Rattle.std.proofs.Common.{◌≡◌, ℕ, ◌+◌, ◌<◌, ◌≤◌, eqb, false, List, ◌∷◌, ◌++◌, length, take, drop, get_or, Option, Some, None, ◌∙◌, ap, sym, subst, arith, MatchOption, add-one, drop-cons}
-use Rattle.std.specs.List.{list_any}
+use Rattle.std.proofs.Common.{◌≡◌, ℕ, ◌<◌, eqb, false, List, ◌∷◌, ◌++◌, length, take, drop, get_or, Option, Some, None, ◌∙◌, ap, sym, subst, arith, MatchOption, add-one, drop-cons}
 use Rattle.std.proofs.lemmas.Bool.{or_from, or_parts, eqb-true, false_from_ne_true}
 use Rattle.std.proofs.lemmas.List.{get_or-take, take-append-drop, length-take}
 use Rattle.std.proofs.lemmas.List.Folds.{list_any-append, list_any_none}

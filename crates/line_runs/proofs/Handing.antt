@@ -1,6 +1,6 @@
 -- What the searched octets and the first LF behind them make of the line at hand.
 use Rattle.std.proofs.Common.{◌≡◌, ℕ, ◌+◌, ◌-◌, ◌<◌, ◌≤◌, List, ◌∷◌, ◌++◌, length, take, drop, ◌∙◌, ap, sym, subst, arith}
-use Rattle.std.proofs.lemmas.List.{take-append-drop, drop-drop, take_all, length-take-le, length-append, append_assoc}
+use Rattle.std.proofs.lemmas.List.{take-append-drop, drop-drop, take_all, length-take-le, append_assoc}
 use Rattle.std.proofs.Math.Seq.{take-add}
 use Rattle.line_runs.specs.Breaks.{IsUnbroken, BreaksAtFirst}
 use Rattle.line_runs.specs.Reading.{EndsLine, IsTooLong, IsOpenLine}

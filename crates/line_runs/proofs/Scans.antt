@@ -1,14 +1,14 @@
 -- How far octets bring a run: lines, long lines, and what was written before.
-use Rattle.std.proofs.Common.{◌≡◌, ℕ, ◌+◌, ◌-◌, ◌<◌, ◌≤◌, ◌^◌, eqb, leb, ltb, true, false, cond, List, [], ◌∷◌, ◌++◌, length, take, ◌∙◌, ap, sym, subst, refl, arith, inl, inr}
+use Rattle.std.proofs.Common.{◌≡◌, ℕ, ◌+◌, ◌-◌, ◌<◌, ◌≤◌, ◌^◌, eqb, leb, ltb, false, List, [], ◌∷◌, ◌++◌, length, take, ◌∙◌, ap, sym, subst, refl, arith, inl, inr}
 use Rattle.std.specs.List.{fold, list_any}
-use Rattle.std.proofs.lemmas.Bool.{or_parts, cond-true, cond-false, cond_both, lt-ltb, le-ltb, le-leb, lt-leb, leb-true, leb-false, cases_lt}
+use Rattle.std.proofs.lemmas.Bool.{or_parts, cond-true, cond-false, cond_both, lt-ltb, le-ltb, le-leb, lt-leb, cases_lt}
 use Rattle.std.proofs.lemmas.List.{append-nil, append_assoc, length-append}
 use Rattle.std.proofs.lemmas.List.Sums.{fold-append}
 use Rattle.std.proofs.Math.Seq.{take-append-add}
 use Rattle.line_runs.specs.declared.tool.TraceWhy.TheVariants.{TooLong}
 use Rattle.line_runs.specs.Breaks.{IsUnbroken}
 use Rattle.line_runs.specs.Write.{IsFrontOf}
-use Rattle.line_runs.specs.Lines.{LineStep, Goes, Breaks, Lacks, BreaksAt, PassesLimit, Progress, Going, Over, after, longer, next_octet, read_by, at_end, at_limit, longest_input, outcome, output_of, written_by}
+use Rattle.line_runs.specs.Lines.{LineStep, Goes, Breaks, Lacks, BreaksAt, Progress, Going, Over, after, longer, next_octet, read_by, at_end, at_limit, longest_input, outcome, output_of, written_by}
 
 pub longest_input_is : longest_input ≡ 2 ^ 30
 unfolding longest_input

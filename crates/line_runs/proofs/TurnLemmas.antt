@@ -1,5 +1,5 @@
 -- One turn of the loop over lines, by what came and by what became of it.
-use Rattle.std.proofs.Common.{◌≡◌, ℕ, ◌+◌, ◌-◌, ◌<◌, ◌≤◌, ◌^◌, Bool, true, false, List, [], ◌∷◌, ◌++◌, Option, None, Some, length, ◌∙◌, ap, sym, subst, refl, arith, ◌⊎◌, inl, inr, IfSome}
+use Rattle.std.proofs.Common.{◌≡◌, ℕ, ◌+◌, ◌≤◌, ◌^◌, Bool, true, false, List, [], ◌∷◌, ◌++◌, Option, None, Some, length, ◌∙◌, ap, sym, subst, refl, arith, inl, inr, IfSome}
 use Rattle.std.proofs.lemmas.Bool.{true≢false}
 use Rattle.std.proofs.lemmas.List.{append-nil, append_assoc, length-append}
 use Rattle.std.specs.Io.KnownBytes.{Consumes, Appends, IsAtEnd}
@@ -8,12 +8,12 @@ use Rattle.line_runs.specs.declared.run.Ended.{Ended}
 use Rattle.line_runs.specs.declared.run.Ended.TheVariants as ended
 use Rattle.line_runs.specs.declared.tool.TraceWhy.TheVariants.{TooLong}
 use Rattle.line_runs.specs.Waiting.{Waiting}
-use Rattle.line_runs.specs.Tool.{Grows}
+use Rattle.line_runs.specs.Tool.{Grows, StepIs}
 use Rattle.line_runs.specs.Write.{IsFrontOf}
-use Rattle.line_runs.specs.Lines.{LineStep, Ending, BreaksAt, LacksAt, PassesLimit, Progress, Going, Over, after, read_by, outcome, output_of, ending_of, written_by}
+use Rattle.line_runs.specs.Lines.{LineStep, Lacks, Ending, BreaksAt, LacksAt, PassesLimit, Going, Over, after, read_by, outcome, output_of, ending_of, written_by, strays}
 use Rattle.line_runs.specs.Reading.{Moves, PassesBy, Gives, IsTooLong, IsOpenLine}
-use Rattle.line_runs.specs.Run.{WritesSome, TakesLine, EndsBy, StopsReading, StopsWriting, Reports, ReportsTold, AfterLines, ReadsAs, Reached, Turns, MovesOn, KnowsEnd, ClosesPartly, Closes}
-use Rattle.line_runs.proofs.Scans.{front_trans, front_more, front_refl}
+use Rattle.line_runs.specs.Run.{TakesKnown, TakesLine, EndsBy, StopsReading, StopsWriting, Reports, ReportsTold, StraysTold, ReadsAs, Reached, Turns, MovesOn, KnowsEnd, ClosesPartly, Closes}
+use Rattle.line_runs.proofs.Scans.{front_trans, front_more}
 use Rattle.line_runs.proofs.Turning.{reads_grow, reads_map, reads_line, reads_open, reads_long, told_over, told_front, told_end, told_past, appends_same, some_map, ends_by}
 
 -- the count stays within the limit
@@ -43,25 +43,45 @@ line_knows_end left remains old new line (Some ended.NoMemory) never t = tt
 line_knows_end left remains old new line (Some ended.InputTooLong) never t = tt
 
 module _ (step : List Bool → List (List ℕ) → List ℕ → LineStep) (closing : List Bool → List (List ℕ) → List ℕ) (left : Option (List ℕ)) where
+  -- of a run that strays nothing is said
+  pub stray_reports : (given : List Bool) (remains held holds : Option (List ℕ)) (answer : Ended) → StraysTold step given left
+      → ReportsTold step closing given left remains held holds answer
+  stray_reports given remains held holds answer s =
+      some_map left (λ all. (later : List Bool) → strays (outcome (step (given ++ later)) all) ≡ true)
+      (λ all. (later : List Bool) → strays (outcome (step (given ++ later)) all) ≡ false
+      → Reports (step (given ++ later)) (closing (given ++ later)) all left remains held holds answer)
+      (λ all is later stays. absurd (true≢false (sym (is later) ∙ stays))) s
+
+  pub stray_turns : (stands : List (List ℕ) → Type 0) (given : List Bool) (remains held holds : Option (List ℕ)) (w : Waiting) (number : ℕ) (result : Option Ended)
+      → StraysTold step given left → Turns step closing stands given left remains held holds w number result
+  stray_turns stands given remains held holds w number None s = inl s
+  stray_turns stands given remains held holds w number (Some answer) s = stray_reports given remains held holds answer s
+
+  pub stray_grows : (given new : List Bool) → Grows given new → StraysTold step given left → StraysTold step new left
+  stray_grows given new (more, is) s =
+      some_map left (λ all. (later : List Bool) → strays (outcome (step (given ++ later)) all) ≡ true)
+      (λ all. (later : List Bool) → strays (outcome (step (new ++ later)) all) ≡ true)
+      (λ all strayed later. subst (λ k. strays (outcome (step k) all) ≡ true) (sym (append_assoc given more later) ∙ ap (λ k. k ++ later) (sym is)) (strayed (more ++ later))) s
+
   -- a run that is over is reported so
   reports_over : (given : List Bool) (remains held holds : Option (List ℕ)) (took : List ℕ) (w : Waiting) (wrote : List ℕ) (ending : Ending)
       → Consumes left remains took → length took ≤ 2 ^ 30 → (w.ended ≡ true → IsAtEnd remains) → ReadsAs step given took w (λ _. Over wrote ending) → Appends held holds wrote
-      → IfSome left (λ all. (later : List Bool) → EndsBy (outcome (step (given ++ later)) all) (closing (given ++ later)) (Some ending) held holds)
+      → IfSome left (λ all. (later : List Bool) → strays (outcome (step (given ++ later)) all) ≡ false → EndsBy (outcome (step (given ++ later)) all) (closing (given ++ later)) (Some ending) held holds)
   reports_over given remains held holds took w wrote ending c short known r a =
       some_map left (λ all. (later : List Bool) → outcome (step (given ++ later)) all ≡ Over wrote ending)
-      (λ all. (later : List Bool) → EndsBy (outcome (step (given ++ later)) all) (closing (given ++ later)) (Some ending) held holds)
-      (λ all e later. ends_by (outcome (step (given ++ later)) all) (Over wrote ending) (closing (given ++ later)) (Some ending) held holds (e later) refl a)
+      (λ all. (later : List Bool) → strays (outcome (step (given ++ later)) all) ≡ false → EndsBy (outcome (step (given ++ later)) all) (closing (given ++ later)) (Some ending) held holds)
+      (λ all e later stays. ends_by (outcome (step (given ++ later)) all) (Over wrote ending) (closing (given ++ later)) (Some ending) held holds (e later) refl a)
       (told_over step given left remains took w wrote ending c short known r)
 
   -- a write that stopped left a front of all that the run writes
   reports_stop : (given : List Bool) (remains held mid holds : Option (List ℕ)) (took : List ℕ) (w : Waiting) (past : List (List ℕ)) (wrote front text : List ℕ)
       → Consumes left remains took → length took ≤ 2 ^ 30 → (w.ended ≡ true → IsAtEnd remains) → ReadsAs step given took w (λ _. Going past [] (wrote ++ text)) → Appends held mid wrote
       → Appends mid holds front → IsFrontOf front text
-      → IfSome left (λ all. (later : List Bool) → StopsWriting (outcome (step (given ++ later)) all) (closing (given ++ later)) held holds)
+      → IfSome left (λ all. (later : List Bool) → strays (outcome (step (given ++ later)) all) ≡ false → StopsWriting (outcome (step (given ++ later)) all) (closing (given ++ later)) held holds)
   reports_stop given remains held mid holds took w past wrote front text c short known r a b f =
       some_map left (λ all. (later : List Bool) → IsFrontOf (wrote ++ text) (written_by (closing (given ++ later)) (outcome (step (given ++ later)) all)))
-      (λ all. (later : List Bool) → StopsWriting (outcome (step (given ++ later)) all) (closing (given ++ later)) held holds)
-      (λ all g later. record {
+      (λ all. (later : List Bool) → strays (outcome (step (given ++ later)) all) ≡ false → StopsWriting (outcome (step (given ++ later)) all) (closing (given ++ later)) held holds)
+      (λ all g later stays. record {
         front = wrote ++ front;
         is_front = front_trans _ _ _ (front_more wrote front text f) (g later);
         wrote = Appends-trans held mid holds wrote front a b;
@@ -72,11 +92,11 @@ module _ (step : List Bool → List (List ℕ) → List ℕ → LineStep) (closi
   reports_same : (given : List Bool) (remains held mid holds : Option (List ℕ)) (took : List ℕ) (w : Waiting) (past : List (List ℕ)) (wrote : List ℕ)
       → Consumes left remains took → length took ≤ 2 ^ 30 → (w.ended ≡ true → IsAtEnd remains) → ReadsAs step given took w (λ _. Going past [] wrote) → Appends held mid wrote
       → Appends mid holds []
-      → IfSome left (λ all. (later : List Bool) → StopsWriting (outcome (step (given ++ later)) all) (closing (given ++ later)) held holds)
+      → IfSome left (λ all. (later : List Bool) → strays (outcome (step (given ++ later)) all) ≡ false → StopsWriting (outcome (step (given ++ later)) all) (closing (given ++ later)) held holds)
   reports_same given remains held mid holds took w past wrote c short known r a b =
       some_map left (λ all. (later : List Bool) → IsFrontOf wrote (written_by (closing (given ++ later)) (outcome (step (given ++ later)) all)))
-      (λ all. (later : List Bool) → StopsWriting (outcome (step (given ++ later)) all) (closing (given ++ later)) held holds)
-      (λ all g later. record { front = wrote; is_front = g later; wrote = appends_same held mid holds wrote a b })
+      (λ all. (later : List Bool) → strays (outcome (step (given ++ later)) all) ≡ false → StopsWriting (outcome (step (given ++ later)) all) (closing (given ++ later)) held holds)
+      (λ all g later stays. record { front = wrote; is_front = g later; wrote = appends_same held mid holds wrote a b })
       (told_front step closing given left remains took w (Going past [] wrote) c short known r)
 
   -- a line came, and the tool took it
@@ -86,7 +106,7 @@ module _ (step : List Bool → List (List ℕ) → List ℕ → LineStep) (closi
       → TakesLine step stands given past line number held holds result
       → Turns step closing stands given left remains held0 holds new number result
   turn_line stands before given mid remains held0 held holds old new past line number result (more, grown) at r (got, m, g) t =
-      by_result result t
+      by_line t
     where
       consumes : Consumes left remains (r.took ++ got)
       consumes = Consumes-trans left mid remains r.took got r.consumes m.consumes
@@ -103,8 +123,8 @@ module _ (step : List Bool → List (List ℕ) → List ℕ → LineStep) (closi
       came : ReadsAs step given (r.took ++ got) new (λ later. after (step (given ++ later) past line) past line r.wrote)
       came = reads_line step given mid remains r.took got old new past line r.wrote m g (reads_grow step before more given r.took old (Going past [] r.wrote) grown r.whole)
 
-      by_result : (result : Option Ended) → TakesLine step stands given past line number held holds result → Turns step closing stands given left remains held0 holds new number result
-      by_result None (text, goes, stood, appends) = (
+      by_result : (result : Option Ended) → TakesKnown step stands given past line number held holds result → Turns step closing stands given left remains held0 holds new number result
+      by_result None (text, goes, stood, appends) = inr (
         line ∷ past,
         stood,
         omega (arith, at),
@@ -124,11 +144,7 @@ module _ (step : List Bool → List (List ℕ) → List ℕ → LineStep) (closi
           (reports_over given remains held0 holds (r.took ++ got) new r.wrote (BreaksAt (length past + 1) why) consumes (omega (arith, size, limit)) known
           (reads_map step given (r.took ++ got) new (λ later. after (step (given ++ later) past line) past line r.wrote) (λ _. Over r.wrote (BreaksAt (length past + 1) why)) (λ later. ap (λ s. after s past line r.wrote) (breaks later)) came)
           (appends_same held0 held holds r.wrote r.appends appends))
-      by_result (Some (ended.Unbuilt n)) (same, lacks, appends) =
-          subst (λ k. ReportsTold step closing given left remains held0 holds (ended.Unbuilt k)) (sym (same ∙ at))
-          (reports_over given remains held0 holds (r.took ++ got) new r.wrote (LacksAt (length past + 1)) consumes (omega (arith, size, limit)) known
-          (reads_map step given (r.took ++ got) new (λ later. after (step (given ++ later) past line) past line r.wrote) (λ _. Over r.wrote (LacksAt (length past + 1))) (λ later. ap (λ s. after s past line r.wrote) (lacks later)) came)
-          (appends_same held0 held holds r.wrote r.appends appends))
+      by_result (Some (ended.Unbuilt n)) t = absurd t
       by_result (Some ended.WriteFault) w =
           reports_stop given remains held0 held holds (r.took ++ got) new (line ∷ past) r.wrote w.front w.text consumes (omega (arith, size, limit)) known
           (reads_map step given (r.took ++ got) new (λ later. after (step (given ++ later) past line) past line r.wrote) (λ _. Going (line ∷ past) [] (r.wrote ++ w.text)) (λ later. ap (λ s. after s past line r.wrote) (w.goes later)) came)
@@ -143,6 +159,18 @@ module _ (step : List Bool → List (List ℕ) → List ℕ → LineStep) (closi
       by_result (Some ended.Ok) t = absurd t
       by_result (Some ended.ReadFault) t = absurd t
       by_result (Some ended.InputTooLong) t = absurd t
+
+      by_lack : StepIs step given past line Lacks → StraysTold step given left
+      by_lack lacks =
+          some_map left (λ all. (later : List Bool) → outcome (step (given ++ later)) all ≡ Over r.wrote (LacksAt (length past + 1)))
+          (λ all. (later : List Bool) → strays (outcome (step (given ++ later)) all) ≡ true)
+          (λ all e later. ap strays (e later))
+          (told_over step given left remains (r.took ++ got) new r.wrote (LacksAt (length past + 1)) consumes (omega (arith, size, limit)) known
+          (reads_map step given (r.took ++ got) new (λ later. after (step (given ++ later) past line) past line r.wrote) (λ _. Over r.wrote (LacksAt (length past + 1))) (λ later. ap (λ s. after s past line r.wrote) (lacks later)) came))
+
+      by_line : TakesLine step stands given past line number held holds result → Turns step closing stands given left remains held0 holds new number result
+      by_line (inl lacks) = stray_turns stands given remains held0 holds new number result (by_lack lacks)
+      by_line (inr taken) = by_result result taken
 
   module _ (given : List Bool) (mid remains held0 held : Option (List ℕ)) (old new : Waiting) (past : List (List ℕ)) (r : Reached step given left mid held0 held old past) where
     -- too many octets came for a line
@@ -190,10 +218,10 @@ module _ (step : List Bool → List (List ℕ) → List ℕ → LineStep) (closi
         ended_so : IfSome left (λ all. (later : List Bool) → outcome (step (given ++ later)) all ≡ Going past [] r.wrote)
         ended_so = told_end step given left remains r.took old past r.wrote consumes size at was_empty r.whole
 
-        partly : ClosesPartly closing given past held holds → IfSome left (λ all. (later : List Bool) → StopsWriting (outcome (step (given ++ later)) all) (closing (given ++ later)) held0 holds)
+        partly : ClosesPartly closing given past held holds → IfSome left (λ all. (later : List Bool) → strays (outcome (step (given ++ later)) all) ≡ false → StopsWriting (outcome (step (given ++ later)) all) (closing (given ++ later)) held0 holds)
         partly w = some_map left (λ all. (later : List Bool) → outcome (step (given ++ later)) all ≡ Going past [] r.wrote)
-            (λ all. (later : List Bool) → StopsWriting (outcome (step (given ++ later)) all) (closing (given ++ later)) held0 holds)
-            (λ all e later. record {
+            (λ all. (later : List Bool) → strays (outcome (step (given ++ later)) all) ≡ false → StopsWriting (outcome (step (given ++ later)) all) (closing (given ++ later)) held0 holds)
+            (λ all e later stays. record {
               front = r.wrote ++ w.front;
               is_front = subst (λ p. IsFrontOf (r.wrote ++ w.front) (written_by (closing (given ++ later)) p)) (sym (e later))
                   (subst (λ xs. IsFrontOf (r.wrote ++ w.front) (r.wrote ++ xs)) (sym (w.closes later)) (front_more r.wrote w.front w.text w.is_front));
@@ -202,8 +230,8 @@ module _ (step : List Bool → List (List ℕ) → List ℕ → LineStep) (closi
 
         by_result : (result : Ended) → Closes closing given past held holds result → ReportsTold step closing given left remains held0 holds result
         by_result ended.Ok (text, closes, appends) = some_map left (λ all. (later : List Bool) → outcome (step (given ++ later)) all ≡ Going past [] r.wrote)
-            (λ all. (later : List Bool) → EndsBy (outcome (step (given ++ later)) all) (closing (given ++ later)) None held0 holds)
-            (λ all e later. ends_by (outcome (step (given ++ later)) all) (Going past [] r.wrote) (closing (given ++ later)) None held0 holds (e later) refl
+            (λ all. (later : List Bool) → strays (outcome (step (given ++ later)) all) ≡ false → EndsBy (outcome (step (given ++ later)) all) (closing (given ++ later)) None held0 holds)
+            (λ all e later stays. ends_by (outcome (step (given ++ later)) all) (Going past [] r.wrote) (closing (given ++ later)) None held0 holds (e later) refl
             (subst (λ xs. Appends held0 holds (r.wrote ++ xs)) (sym (closes later)) (Appends-trans held0 held holds r.wrote text r.appends appends)))
             ended_so
         by_result ended.WriteFault w = partly w
@@ -219,12 +247,12 @@ module _ (step : List Bool → List (List ℕ) → List ℕ → LineStep) (closi
         → ReportsTold step closing given left remains held0 held ended.ReadFault
     turn_failed (got, m, o, open_) = by_whole r.whole
       where
-        some_of : (o : Option (List ℕ)) (P : Type 0) → P → IfSome o (λ _. P)
+        some_of : (o : Option (List ℕ)) (P : List ℕ → Type 0) → ((x : List ℕ) → P x) → IfSome o P
         some_of None P p = tt
-        some_of (Some x) P p = p
+        some_of (Some x) P p = p x
 
         by_whole : ReadsAs step given r.took old (λ _. Going past [] r.wrote) → ReportsTold step closing given left remains held0 held ended.ReadFault
-        by_whole (inl a) = some_of left ((later : List Bool) → StopsReading (step (given ++ later)) left remains held0 held) (λ later.
+        by_whole (inl a) = some_of left (λ all. (later : List Bool) → strays (outcome (step (given ++ later)) all) ≡ false → StopsReading (step (given ++ later)) left remains held0 held) (λ all later stays.
             let reads : read_by (step (given ++ later)) (r.took ++ got) ≡ Going past (old.text ++ got) r.wrote = reads_open step given r.took got old past r.wrote o a later in
             record {
               took = r.took ++ got;
@@ -242,8 +270,8 @@ module _ (step : List Bool → List (List ℕ) → List ℕ → LineStep) (closi
         by_whole : ReadsAs step given r.took old (λ _. Going past [] r.wrote) → ReportsTold step closing given left remains held0 held ended.InputTooLong
         by_whole (inl a) =
             some_map left (λ all. (later : List Bool) → outcome (step (given ++ later)) all ≡ Over r.wrote PassesLimit)
-            (λ all. (later : List Bool) → EndsBy (outcome (step (given ++ later)) all) (closing (given ++ later)) (Some PassesLimit) held0 held)
-            (λ all e later. ends_by (outcome (step (given ++ later)) all) (Over r.wrote PassesLimit) (closing (given ++ later)) (Some PassesLimit) held0 held (e later) refl r.appends)
+            (λ all. (later : List Bool) → strays (outcome (step (given ++ later)) all) ≡ false → EndsBy (outcome (step (given ++ later)) all) (closing (given ++ later)) (Some PassesLimit) held0 held)
+            (λ all e later stays. ends_by (outcome (step (given ++ later)) all) (Over r.wrote PassesLimit) (closing (given ++ later)) (Some PassesLimit) held0 held (e later) refl r.appends)
             (told_past step given left remains (r.took ++ got) p.last (old.text ++ got) past r.wrote
             (subst (λ xs. Consumes left remains xs) (sym (append_assoc r.took got p.last)) (Consumes-trans left mid remains r.took (got ++ p.last) r.consumes p.consumes))
             p.some (omega (arith, length-append r.took got, r.count, full))

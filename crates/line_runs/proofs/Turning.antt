@@ -1,22 +1,17 @@
 -- What each turn of the loop over lines makes of what was read and written before it.
-use Rattle.std.proofs.Common.{◌≡◌, ℕ, ◌+◌, ◌-◌, ◌<◌, ◌≤◌, ◌^◌, Bool, true, false, List, [], ◌∷◌, ◌++◌, Option, None, Some, length, ◌∙◌, ap, sym, subst, refl, arith, ◌⊎◌, inl, inr, IfSome}
+use Rattle.std.proofs.Common.{◌≡◌, ℕ, ◌+◌, ◌<◌, ◌≤◌, ◌^◌, Bool, true, List, [], ◌∷◌, ◌++◌, Option, None, Some, length, ◌∙◌, ap, sym, subst, refl, arith, inl, inr, IfSome}
 use Rattle.std.specs.List.{fold}
-use Rattle.std.proofs.lemmas.Bool.{true≢false}
 use Rattle.std.proofs.lemmas.List.{append-nil, append_assoc, length-append}
 use Rattle.std.proofs.lemmas.List.Sums.{fold-append}
 use Rattle.std.specs.Io.KnownBytes.{Consumes, Appends, IsAtEnd}
-use Rattle.std.proofs.KnownBytes.{Consumes-trans, Appends-trans, Appends-nil}
-use Rattle.line_runs.specs.declared.run.Ended.{Ended}
-use Rattle.line_runs.specs.declared.run.Ended.TheVariants as ended
+use Rattle.std.proofs.KnownBytes.{Appends-trans}
 use Rattle.line_runs.specs.declared.tool.TraceWhy.TheVariants.{TooLong}
-use Rattle.line_runs.specs.Breaks.{IsUnbroken}
 use Rattle.line_runs.specs.Waiting.{Waiting}
-use Rattle.line_runs.specs.Tool.{Grows, StepIs}
 use Rattle.line_runs.specs.Write.{IsFrontOf}
-use Rattle.line_runs.specs.Lines.{LineStep, Goes, Breaks, Lacks, Ending, BreaksAt, LacksAt, PassesLimit, Progress, Going, Over, after, next_octet, read_by, at_end, at_limit, outcome, output_of, ending_of, written_by}
-use Rattle.line_runs.specs.Reading.{Moves, PassesBy, EndsLine, EndsLast, Gives, IsTooLong, IsOpenLine}
-use Rattle.line_runs.specs.Run.{WritesSome, TakesLine, EndsBy, StopsReading, StopsWriting, Reports, ReportsTold, AfterLines, AfterLast, ReadsAs, Reached, Turns, ClosesPartly, Closes}
-use Rattle.line_runs.proofs.Scans.{scan_line, scan_unbroken, scan_long, front_refl, front_trans, front_more, front_written, front_end, outcome_over, outcome_front, outcome_whole, outcome_past}
+use Rattle.line_runs.specs.Lines.{LineStep, Ending, BreaksAt, PassesLimit, Progress, Going, Over, after, next_octet, read_by, at_end, at_limit, outcome, output_of, ending_of, written_by}
+use Rattle.line_runs.specs.Reading.{Moves, Gives, IsTooLong, IsOpenLine}
+use Rattle.line_runs.specs.Run.{EndsBy, AfterLines, ReadsAs}
+use Rattle.line_runs.proofs.Scans.{scan_line, scan_unbroken, scan_long, front_written, outcome_over, outcome_front, outcome_whole, outcome_past}
 
 -- a run's own store and steps
 module _ (step : List Bool → List (List ℕ) → List ℕ → LineStep) where

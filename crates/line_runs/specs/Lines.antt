@@ -1,10 +1,10 @@
 -- What an input means to a tool that takes lines: octet by octet, up to its end or to the first line that breaks.
-use Rattle.std.specs.Prelude.{ℕ, ◌+◌, ◌==◌, ◌^◌, nat_lt, nat_le, if◌then◌else◌, Bool, List, [], ◌∷◌, ◌++◌, length, take, Option, Some, None}
+use Rattle.std.specs.Prelude.{ℕ, ◌+◌, ◌==◌, ◌^◌, nat_lt, nat_le, if◌then◌else◌, Bool, true, false, List, [], ◌∷◌, ◌++◌, length, take, Option, Some, None}
 use Rattle.std.specs.List.{fold}
 use Rattle.line_runs.specs.declared.tool.TraceWhy.{TraceWhy}
 use Rattle.line_runs.specs.declared.tool.TraceWhy.TheVariants.{TooLong}
 
--- what a tool does with a line
+-- what a tool does with a line; of a line that lacks its law nothing is said, nor of what follows it
 pub data LineStep : Type 0 where
   Goes : (text : List ℕ) → LineStep
   Breaks : (why : TraceWhy) → LineStep
@@ -78,3 +78,10 @@ ending_of (Over output ending) = Some ending
 abbrev pub written_by : (List (List ℕ) → List ℕ) → Progress → List ℕ
 written_by closing (Going past text output) = output ++ closing past
 written_by closing (Over output ending) = output
+
+-- whether the run comes to a line of which nothing is said
+abbrev pub strays : Progress → Bool
+strays (Going past text output) = false
+strays (Over output (BreaksAt line why)) = false
+strays (Over output (LacksAt line)) = true
+strays (Over output PassesLimit) = false

@@ -1,5 +1,5 @@
 -- What the fields of a reading keep.
-use Rattle.std.specs.Prelude.{◌≡◌, ◌+◌, ◌≤◌, ◌<◌, ◌^◌, length, take, drop, vec_len}
+use Rattle.std.specs.Prelude.{◌≡◌, ◌+◌, ◌≤◌, ◌^◌, length, take, drop}
 use Rattle.line_runs.specs.Breaks.{IsUnbroken}
 use Rattle.line_runs.specs.declared.reading.Reading.TheInside.{Inside}
 

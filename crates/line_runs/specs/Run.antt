@@ -1,8 +1,8 @@
 -- What a run over an input read and wrote, by how it ended.
-use Rattle.std.specs.Prelude.{◌≡◌, ◌≢◌, ℕ, ◌+◌, ◌<◌, ◌≤◌, ◌^◌, Bool, true, List, [], ◌∷◌, ◌++◌, length, Option, None, Some, ◌⊎◌, IfSome}
+use Rattle.std.specs.Prelude.{◌≡◌, ℕ, ◌+◌, ◌<◌, ◌≤◌, ◌^◌, Bool, true, false, List, [], ◌∷◌, ◌++◌, length, Option, None, Some, ◌⊎◌, IfSome}
 use Rattle.std.specs.Io.KnownBytes.{Consumes, Appends, IsAtEnd}
 use Rattle.outside_core.specs.Faults.{Rose}
-use Rattle.line_runs.specs.Lines.{LineStep, Goes, Breaks, Lacks, Ending, BreaksAt, LacksAt, PassesLimit, Progress, Going, read_by, at_end, outcome, output_of, ending_of, written_by}
+use Rattle.line_runs.specs.Lines.{LineStep, Goes, Breaks, Lacks, Ending, BreaksAt, PassesLimit, Progress, Going, read_by, strays, at_end, outcome, output_of, ending_of, written_by}
 use Rattle.line_runs.specs.Tool.{StepIs}
 use Rattle.line_runs.specs.Waiting.{Waiting}
 use Rattle.line_runs.specs.Write.{IsFrontOf}
@@ -18,19 +18,23 @@ pub record WritesSome (step : List Bool → List (List ℕ) → List ℕ → Lin
   pub appends : Appends held holds front
 
 -- one line was taken, and its text written; or the run ended there
-abbrev pub TakesLine : (List Bool → List (List ℕ) → List ℕ → LineStep) → (List (List ℕ) → Type 0) → List Bool → List (List ℕ) → List ℕ → ℕ → Option (List ℕ) → Option (List ℕ) → Option Ended → Type 0
-TakesLine step stands given past line number held holds None =
+abbrev pub TakesKnown : (List Bool → List (List ℕ) → List ℕ → LineStep) → (List (List ℕ) → Type 0) → List Bool → List (List ℕ) → List ℕ → ℕ → Option (List ℕ) → Option (List ℕ) → Option Ended → Type 0
+TakesKnown step stands given past line number held holds None =
     (text : List ℕ) × StepIs step given past line (Goes text) × stands (line ∷ past) × Appends held holds text
-TakesLine step stands given past line number held holds (Some (ended.BadLine at why)) =
+TakesKnown step stands given past line number held holds (Some (ended.BadLine at why)) =
     (at ≡ number) × StepIs step given past line (Breaks why) × Appends held holds []
-TakesLine step stands given past line number held holds (Some (ended.Unbuilt at)) =
-    (at ≡ number) × StepIs step given past line Lacks × Appends held holds []
-TakesLine step stands given past line number held holds (Some ended.WriteFault) = WritesSome step given past line held holds
-TakesLine step stands given past line number held holds (Some ended.NoMemory) =
+TakesKnown step stands given past line number held holds (Some (ended.Unbuilt at)) = ⊥
+TakesKnown step stands given past line number held holds (Some ended.WriteFault) = WritesSome step given past line held holds
+TakesKnown step stands given past line number held holds (Some ended.NoMemory) =
     Appends held holds [] ⊎ WritesSome step given past line held holds
-TakesLine step stands given past line number held holds (Some ended.Ok) = ⊥
-TakesLine step stands given past line number held holds (Some ended.ReadFault) = ⊥
-TakesLine step stands given past line number held holds (Some ended.InputTooLong) = ⊥
+TakesKnown step stands given past line number held holds (Some ended.Ok) = ⊥
+TakesKnown step stands given past line number held holds (Some ended.ReadFault) = ⊥
+TakesKnown step stands given past line number held holds (Some ended.InputTooLong) = ⊥
+
+-- the same, unless nothing is said of the line
+abbrev pub TakesLine : (List Bool → List (List ℕ) → List ℕ → LineStep) → (List (List ℕ) → Type 0) → List Bool → List (List ℕ) → List ℕ → ℕ → Option (List ℕ) → Option (List ℕ) → Option Ended → Type 0
+TakesLine step stands given past line number held holds answer =
+    StepIs step given past line Lacks ⊎ TakesKnown step stands given past line number held holds answer
 
 -- the sink's count never falls, and rose where a write failed
 pub record WriteHasCause (before now : ℕ) (answer : Option Ended) : Type 0 where
@@ -60,20 +64,25 @@ pub record StopsWriting (run : Progress) (closing : List (List ℕ) → List ℕ
   pub is_front : IsFrontOf front (written_by closing run)
   pub wrote : Appends held holds front
 
--- what a run over the whole input wrote, by how it ended
+-- what a run over the whole input wrote, by how it ended; where something is said of each of its lines, it is never Unbuilt
 abbrev pub Reports : (List (List ℕ) → List ℕ → LineStep) → (List (List ℕ) → List ℕ) → List ℕ → Option (List ℕ) → Option (List ℕ) → Option (List ℕ) → Option (List ℕ) → Ended → Type 0
 Reports step closing all left remains held holds ended.Ok = EndsBy (outcome step all) closing None held holds
 Reports step closing all left remains held holds (ended.BadLine line why) = EndsBy (outcome step all) closing (Some (BreaksAt line why)) held holds
-Reports step closing all left remains held holds (ended.Unbuilt line) = EndsBy (outcome step all) closing (Some (LacksAt line)) held holds
+Reports step closing all left remains held holds (ended.Unbuilt line) = ⊥
 Reports step closing all left remains held holds ended.ReadFault = StopsReading step left remains held holds
 Reports step closing all left remains held holds ended.WriteFault = StopsWriting (outcome step all) closing held holds
 Reports step closing all left remains held holds ended.NoMemory = StopsWriting (outcome step all) closing held holds
 Reports step closing all left remains held holds ended.InputTooLong = EndsBy (outcome step all) closing (Some PassesLimit) held holds
 
--- the same, where the source tells its octets, and whatever the store answers later
+-- the same, where the source tells its octets, something is said of each line, and whatever the store answers later
 abbrev pub ReportsTold : (List Bool → List (List ℕ) → List ℕ → LineStep) → (List Bool → List (List ℕ) → List ℕ) → List Bool → Option (List ℕ) → Option (List ℕ) → Option (List ℕ) → Option (List ℕ) → Ended → Type 0
 ReportsTold step closing given left remains held holds answer =
-    IfSome left (λ all. (later : List Bool) → Reports (step (given ++ later)) (closing (given ++ later)) all left remains held holds answer)
+    IfSome left (λ all. (later : List Bool) → strays (outcome (step (given ++ later)) all) ≡ false
+    → Reports (step (given ++ later)) (closing (given ++ later)) all left remains held holds answer)
+
+-- the run comes to a line of which nothing is said, whatever the store answers later
+abbrev pub StraysTold : (List Bool → List (List ℕ) → List ℕ → LineStep) → List Bool → Option (List ℕ) → Type 0
+StraysTold step given left = IfSome left (λ all. (later : List Bool) → strays (outcome (step (given ++ later)) all) ≡ true)
 
 -- whole lines were taken, and the octets at hand follow them
 pub record AfterLines (step : List Bool → List (List ℕ) → List ℕ → LineStep) (given : List Bool) (took text : List ℕ) (run : List Bool → Progress) : Type 0 where
@@ -105,7 +114,7 @@ pub record Reached (step : List Bool → List (List ℕ) → List ℕ → LineSt
 -- after one turn: one line further, or at the end
 abbrev pub Turns : (List Bool → List (List ℕ) → List ℕ → LineStep) → (List Bool → List (List ℕ) → List ℕ) → (List (List ℕ) → Type 0) → List Bool → Option (List ℕ) → Option (List ℕ) → Option (List ℕ) → Option (List ℕ) → Waiting → ℕ → Option Ended → Type 0
 Turns step closing stands given left remains held holds waiting number None =
-    (past : List (List ℕ)) × stands past × (length past ≡ number) × Reached step given left remains held holds waiting past
+    StraysTold step given left ⊎ ((past : List (List ℕ)) × stands past × (length past ≡ number) × Reached step given left remains held holds waiting past)
 Turns step closing stands given left remains held holds waiting number (Some answer) =
     ReportsTold step closing given left remains held holds answer
 

@@ -37,7 +37,7 @@ fn take_line<B: Sink, T: LineTool>(
     ensures takes { (opened : T) (past : List (List ℕ)) → T.stands tool.old opened past
         → TakesLine (T.step opened) (T.stands tool.new opened) (T.given tool.new) past line.now number
         (B.held out.old) (B.held out.new) result }
-    ensures rests { (opened : T) (past : List (List ℕ)) → T.stands tool.old opened past → T.rests tool.new opened }
+    ensures rests { (opened : T) → T.rests tool.old opened → T.rests tool.new opened }
     ensures cause { WriteHasCause (B.faults out.old) (B.faults out.new) result }
     ensures never_read { result ≢ Some Ended.ReadFault }
     ensures never_ends { result ≢ Some Ended.Ok }
@@ -84,7 +84,8 @@ fn turn<A: Source, B: Sink, T: LineTool>(
         → Reached (T.step opened) (T.given tool.old) left (A.left input.old) held (B.held out.old) reading.old past
         → Turns (T.step opened) (T.closing opened) (T.stands tool.new opened) (T.given tool.new)
         left (A.left input.new) held (B.held out.new) reading.new number result }
-    ensures rests { (opened : T) (past : List (List ℕ)) → T.stands tool.old opened past → T.rests tool.new opened }
+    ensures grows { Grows (T.given tool.old) (T.given tool.new) }
+    ensures rests { (opened : T) → T.rests tool.old opened → T.rests tool.new opened }
     ensures moves_on { MovesOn reading.old reading.new result }
     ensures knows_end { KnowsEnd (A.left input.old) (A.left input.new) reading.old reading.new result }
     ensures read_cause { ReadHasCause (A.faults input.old) (A.faults input.new) result }
@@ -113,6 +114,7 @@ pub fn run_lines<A: Source, B: Sink, T: LineTool>(
     out: &mut B,
 ) -> Ended
     requires opened { T.stands tool.old tool.old [] }
+    requires rests { T.rests tool.old tool.old }
     ensures reports { ReportsTold (T.step tool.old) (T.closing tool.old) (T.given tool.new)
         (A.left input.old) (A.left input.new) (B.held out.old) (B.held out.new) result }
     ensures rests { T.rests tool.new tool.old }

@@ -35,7 +35,8 @@ pub enum Stop {
 /// What takes the lines of an input one by one.
 ///
 /// Its output is a function of the tool as it was opened, of the lines so far, and of what its store
-/// answered: contracts speak of a tool by the lines that it took, the newest first, and not by its state.
+/// answered: contracts speak of a tool by the lines that it took, the newest first, and not by its state. A line may
+/// lack its law: then nothing is said of it, nor of what follows.
 pub trait LineTool {
     ghost use Rattle.std.specs.Prelude.{◌≡◌, ℕ, ◌++◌, List, Bool, IfOk};
     ghost use Rattle.line_runs.specs.Lines.{LineStep};
@@ -47,11 +48,8 @@ pub trait LineTool {
     /// A tool stands for an opened one and the lines that it took since.
     ghost stands: { Self → Self → List (List ℕ) → Type 0 };
 
-    /// What holds of a tool that is only to be closed, by the tool as it was opened: what became of its store.
+    /// What holds of a tool at each moment, by the tool as it was opened: what became of its store.
     ghost rests: { Self → Self → Type 0 };
-
-    /// A tool may be closed after each line.
-    ghost rest: { (now opened : Self) (past : List (List ℕ)) → stands now opened past → rests now opened };
 
     /// What an opened tool does with a line, after others, by all that its store answers in the run.
     ghost step: { Self → List Bool → List (List ℕ) → List ℕ → LineStep };
@@ -64,7 +62,7 @@ pub trait LineTool {
         ensures grows { Grows (given self.old) (given self.new) }
         ensures steps { (opened : Self) (past : List (List ℕ)) → stands self.old opened past
             → StepsBy (step opened) (stands self.new opened) (given self.new) past line.now result }
-        ensures rests { (opened : Self) (past : List (List ℕ)) → stands self.old opened past → rests self.new opened };
+        ensures rests { (opened : Self) → rests self.old opened → rests self.new opened };
 
     /// Gives what is to be written at the end of the input.
     fn close(&self, alloc: Global) -> Result<Octets, NoMemory>

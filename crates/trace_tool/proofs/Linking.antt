@@ -1,5 +1,5 @@
 -- Connections of the code and of the definitions change alike.
-use Rattle.std.proofs.Common.{◌≡◌, ℕ, eqb, nat_cmp, cond, Bool, true, false, List, [], ◌∷◌, ◌++◌, map, Option, None, Some, is_some, Result, Ok, Err, ◌∙◌, ap, sym, subst, refl, arith}
+use Rattle.std.proofs.Common.{◌≡◌, ℕ, eqb, nat_cmp, cond, Bool, true, false, List, [], ◌∷◌, ◌++◌, map, Option, None, Some, is_some, Result, Ok, Err, ◌⊎◌, inl, inr, ◌∙◌, ap, sym, subst, refl, arith}
 use Rattle.std.specs.BTreeMap.{is_at}
 use Rattle.std.specs.Map.{lookup, set_value, remove_entry}
 use Rattle.std.specs.Option.{option_map}
@@ -23,8 +23,8 @@ use Rattle.line_runs.specs.declared.tool.TraceWhy.TheVariants.{NoSuchConnection}
 use Rattle.trace_tool.specs.declared.replay.Replay.{Replay}
 use Rattle.trace_tool.specs.declared.wire.Wire.{Wire}
 use Rattle.trace_tool.specs.Hearing.{PieceDone}
-use Rattle.trace_tool.specs.Linked.{Linked, LinkHeard, Drained, wire_name}
-use Rattle.trace_tool.specs.Replay.{IsLink, StandsFor, Happens, conn_name, went_step, went_lines}
+use Rattle.trace_tool.specs.Linked.{Linked, LinkLacks, Drained, wire_name}
+use Rattle.trace_tool.specs.Replay.{IsLink, StandsFor, Happens, event_step, conn_name, went_step, went_lines}
 
 -- ---- tables
 
@@ -118,7 +118,8 @@ linked hub wires now h links c octets old new r wire conn found p set done =
     by_link (lookup (λ n. eqb n c) links) refl (link_alike c wires links (Some wire) found p)
   where
     by_result : (x : Result (Option Closing) Stop) (link : Link) → lookup (λ n. eqb n c) links ≡ Some link → IsLink wire link → PieceDone hub conn h link.number link.heard octets old new x → Linked hub now h links c octets old new x
-    by_result (Ok refused) link there is d = record {
+    by_result x link there is (inl lacks) = inl (record { link = link; there = there; lacks = lacks })
+    by_result (Ok refused) link there is (inr d) = inr (record {
       link = link;
       there = there;
       went = d.went;
@@ -128,10 +129,10 @@ linked hub wires now h links c octets old new r wire conn found p set done =
       serves = d.serves;
       links_are = subst (λ es. Paired IsLink es (put_octets links c (Some link) octets)) (sym (set ∙ set_same (is_at (nat_cmp c)) (λ n. eqb n c) wires (record { number = wire.number; conn = conn }) (at_number c)))
           (paired-set IsLink (λ n. eqb n c) (record { number = wire.number; conn = conn }) (record { number = link.number; heard = link.heard ++ octets }) (record { number_is = is.number_is; talks = d.talks }) p);
-    }
-    by_result (Err Unbuilt) link there is d = (link, there, d)
-    by_result (Err NoMemory) link there is d = tt
-    by_result (Err (BadLine why)) link there is d = absurd d
+    })
+    by_result (Err Unbuilt) link there is (inr d) = absurd d
+    by_result (Err NoMemory) link there is (inr d) = inr tt
+    by_result (Err (BadLine why)) link there is (inr d) = absurd d
 
     by_link : (o : Option Link) → lookup (λ n. eqb n c) links ≡ o → Both IsLink (Some wire) o → Linked hub now h links c octets old new r
     by_link None e b = absurd b
@@ -139,17 +140,24 @@ linked hub wires now h links c octets old new r wire conn found p set done =
 
 pub linked_none : {K : Type 0} (hub : Hub K) (wires now : List (ℕ × Wire)) (h : List Arrival) (links : List (ℕ × Link)) (c : ℕ) (octets old new : List ℕ) → None ≡ lookup (is_at (nat_cmp c)) wires → Paired IsLink wires links
     → Linked hub now h links c octets old new (Err (BadLine NoSuchConnection))
-linked_none hub wires now h links c octets old new found p = (none_alike None (lookup (λ n. eqb n c) links) refl (link_alike c wires links None found p), refl)
+linked_none hub wires now h links c octets old new found p = inr (none_alike None (lookup (λ n. eqb n c) links) refl (link_alike c wires links None found p), refl)
 
 -- ---- events
 
+-- octets came, of which nothing is said
+lacked : (p : Past) (c : ℕ) (octets : List ℕ) → LinkLacks p.arrivals p.connections c octets → event_step p (trace.Bytes c octets) ≡ Lacks
+lacked p c octets l =
+    ap (λ o. cond (is_some o) (went_step c (hear_link o octets p.arrivals)) (Breaks NoSuchConnection)) l.there ∙ ap (went_step c) l.lacks
+
 -- octets came
 pub bytes_came : {K : Type 0} (now : Replay K) (p : Past) (c : ℕ) (octets text old sent : List ℕ) (refused : Option Closing) → old ≡ []
-    → LinkHeard now.hub now.connections.entries p.arrivals p.connections c octets old sent refused → text ≡ went_lines c sent refused → Happens now p (trace.Bytes c octets) (Ok text)
-bytes_came now p c octets text old sent refused empty f t =
+    → Linked now.hub now.connections.entries p.arrivals p.connections c octets old sent (Ok refused) → text ≡ went_lines c sent refused → Happens now p (trace.Bytes c octets) (Ok text)
+bytes_came now p c octets text old sent refused empty (inl l) t = inl (lacked p c octets l)
+bytes_came now p c octets text old sent refused empty (inr f) t =
     let came : hear_link (link_of p c) octets p.arrivals ≡ Some f.went = ap (λ o. hear_link o octets p.arrivals) f.there ∙ f.goes in
     let text_is : went_lines c f.went.sent f.went.refused ≡ text =
-    ap (λ xs. went_lines c xs f.went.refused) (sym (f.sent ∙ ap (λ xs. xs ++ f.went.sent) empty)) ∙ ap (went_lines c sent) (sym f.refused_is) ∙ sym t in (
+    ap (λ xs. went_lines c xs f.went.refused) (sym (f.sent ∙ ap (λ xs. xs ++ f.went.sent) empty)) ∙ ap (went_lines c sent) (sym f.refused_is) ∙ sym t in
+    inr (
       ap (λ o. cond (is_some o) (went_step c (hear_link o octets p.arrivals)) (Breaks NoSuchConnection)) f.there ∙ ap (went_step c) f.goes ∙ ap Goes text_is,
       record {
         serves = subst (Serves now.hub) (sym (ap (λ w. heard_by w p.arrivals) came)) f.serves;
@@ -157,19 +165,19 @@ bytes_came now p c octets text old sent refused empty f t =
       },
     )
 
--- or they were refused, or not built
+-- or they were refused
 pub bytes_stopped : {K : Type 0} (now : Replay K) (hub : Hub K) (wires : List (ℕ × Wire)) (p : Past) (c : ℕ) (octets old sent : List ℕ) (stop : Stop)
     → Linked hub wires p.arrivals p.connections c octets old sent (Err stop) → Happens now p (trace.Bytes c octets) (Err stop)
-bytes_stopped now hub wires p c octets old sent Unbuilt d =
-    ap (λ o. cond (is_some o) (went_step c (hear_link o octets p.arrivals)) (Breaks NoSuchConnection)) d.1 ∙ ap (went_step c) d.2
-bytes_stopped now hub wires p c octets old sent (BadLine why) d =
-    ap (λ o. cond (is_some o) (went_step c (hear_link o octets p.arrivals)) (Breaks NoSuchConnection)) d.0 ∙ ap Breaks (sym d.1)
-bytes_stopped now hub wires p c octets old sent NoMemory d = tt
+bytes_stopped now hub wires p c octets old sent stop (inl l) = inl (lacked p c octets l)
+bytes_stopped now hub wires p c octets old sent Unbuilt (inr d) = absurd d
+bytes_stopped now hub wires p c octets old sent (BadLine why) (inr d) =
+    inr (ap (λ o. cond (is_some o) (went_step c (hear_link o octets p.arrivals)) (Breaks NoSuchConnection)) d.0 ∙ ap Breaks (sym d.1))
+bytes_stopped now hub wires p c octets old sent NoMemory (inr d) = inr tt
 
 -- a connection was lost
 pub lost_is : {K : Type 0} (now : Replay K) (p : Past) (c number : ℕ) → Some number ≡ option_map (λ (l : Link). l.number) (link_of p c) → Serves now.hub (Hears (event.Lost number) ∷ p.arrivals)
     → Paired IsLink now.connections.entries (remove_entry (λ n. eqb n c) p.connections) → Happens now p (trace.Lose c) (Ok [])
-lost_is now p c number is s links = by_link (link_of p c) is
+lost_is now p c number is s links = inr (by_link (link_of p c) is)
   where
     by_link : (o : Option Link) → Some number ≡ option_map (λ (l : Link). l.number) o
         → (cond (is_some o) (Goes []) (Breaks NoSuchConnection) ≡ Goes []) × StandsFor now (record { connections = remove_entry (λ n. eqb n c) p.connections; arrivals = lose_link o p.arrivals })
@@ -178,7 +186,7 @@ lost_is now p c number is s links = by_link (link_of p c) is
         let same : number ≡ link.number = cc e in (refl, record { serves = subst (λ n. Serves now.hub (Hears (event.Lost n) ∷ p.arrivals)) same s; links_are = links })
 
 pub lost_none : {K : Type 0} (now : Replay K) (p : Past) (c : ℕ) → None ≡ option_map (λ (l : Link). l.number) (link_of p c) → Happens now p (trace.Lose c) (Err (BadLine NoSuchConnection))
-lost_none now p c is = by_link (link_of p c) is
+lost_none now p c is = inr (by_link (link_of p c) is)
   where
     by_link : (o : Option Link) → None ≡ option_map (λ (l : Link). l.number) o → cond (is_some o) (Goes []) (Breaks NoSuchConnection) ≡ Breaks NoSuchConnection
     by_link None e = refl
@@ -187,7 +195,7 @@ lost_none now p c is = by_link (link_of p c) is
 -- deliveries went out, or there is no such connection
 pub drained_is : {K : Type 0} (now : Replay K) (p : Past) (c : ℕ) (text : List ℕ) → text ≡ [] → Drained now.hub p.arrivals (link_of p c) (Ok tt) → Paired IsLink now.connections.entries p.connections
     → Happens now p (trace.Quiet c) (Ok text)
-drained_is now p c text empty d links = subst (λ xs. Happens now p (trace.Quiet c) (Ok xs)) (sym empty) (by_link (link_of p c) d)
+drained_is now p c text empty d links = subst (λ xs. Happens now p (trace.Quiet c) (Ok xs)) (sym empty) (inr (by_link (link_of p c) d))
   where
     by_link : (o : Option Link) → Drained now.hub p.arrivals o (Ok tt) → (cond (is_some o) (Goes []) (Breaks NoSuchConnection) ≡ Goes []) × StandsFor now (record { connections = p.connections; arrivals = drain_link o p.arrivals })
     by_link None e = absurd e
@@ -195,11 +203,11 @@ drained_is now p c text empty d links = subst (λ xs. Happens now p (trace.Quiet
 
 abbrev Stops : Option Link → Stop → Type 0
 Stops o (BadLine why) = cond (is_some o) (Goes []) (Breaks NoSuchConnection) ≡ Breaks why
-Stops o Unbuilt = cond (is_some o) (Goes []) (Breaks NoSuchConnection) ≡ Lacks
+Stops o Unbuilt = ⊥
 Stops o NoMemory = Unit {0}
 
 pub not_drained : {K : Type 0} (now : Replay K) (hub : Hub K) (p : Past) (c : ℕ) (stop : Stop) → Drained hub p.arrivals (link_of p c) (Err stop) → Happens now p (trace.Quiet c) (Err stop)
-not_drained now hub p c stop d = by_link (link_of p c) stop d
+not_drained now hub p c stop d = by_stop stop (by_link (link_of p c) stop d)
   where
     by_link : (o : Option Link) (x : Stop) → Drained hub p.arrivals o (Err x) → Stops o x
     by_link None (BadLine why) e = ap Breaks (sym e)
@@ -208,3 +216,8 @@ not_drained now hub p c stop d = by_link (link_of p c) stop d
     by_link (Some link) NoMemory e = tt
     by_link (Some link) Unbuilt e = absurd e
     by_link (Some link) (BadLine why) e = absurd e
+
+    by_stop : (x : Stop) → Stops (link_of p c) x → Happens now p (trace.Quiet c) (Err x)
+    by_stop (BadLine why) e = inr e
+    by_stop Unbuilt e = absurd e
+    by_stop NoMemory e = inr tt

@@ -1,5 +1,5 @@
 -- A piece is heard unit by unit.
-use Rattle.std.proofs.Common.{◌≡◌, ℕ, eqb, true, false, List, [], ◌∷◌, ◌++◌, length, take, drop, fold, Option, None, Some, Err, ◌∙◌, ap, sym, subst, refl, arith, append_assoc}
+use Rattle.std.proofs.Common.{◌≡◌, ℕ, eqb, true, false, List, [], ◌∷◌, ◌++◌, length, take, drop, fold, Option, None, Some, Result, Ok, Err, ◌⊎◌, inl, inr, ◌∙◌, ap, sym, subst, refl, arith, append_assoc}
 use Rattle.std.proofs.lemmas.Bool.{eqb-true}
 use Rattle.std.proofs.lemmas.List.{append-nil, take-append-drop, length-drop}
 use Rattle.std.proofs.Math.Seq.{take-length}
@@ -22,7 +22,8 @@ use Rattle.hub_core.specs.declared.hub.Hub.{Hub}
 use Rattle.hub_core.specs.Hub.{Serves}
 use Rattle.line_runs.specs.declared.tool.Stop.{Stop}
 use Rattle.line_runs.specs.declared.tool.Stop.TheVariants.{BadLine, Unbuilt, NoMemory}
-use Rattle.trace_tool.specs.Hearing.{HeardOne, UnitDone, HeardSome, HeardEnd, SomeDone, HeardPiece, PieceDone}
+use Rattle.trace_tool.specs.declared.hearing.Heard.{Heard}
+use Rattle.trace_tool.specs.Hearing.{SomeHeard, HeardOne, UnitDone, HeardSome, HeardEnd, SomeDone, HeardPiece, PieceDone}
 
 sent_none : (w : Option Went) → w ≡ sent_before [] w
 sent_none None = refl
@@ -103,12 +104,20 @@ some_unbuilt h n before octets old mid taken k u t none =
     subst (λ s. HeardAs s n (talk before) octets h) t.says_is (heard_as n (talk before) octets h)
     ∙ none (λ more. hear_octets n (fold talk_octet (talk before) (take taken octets)) (drop taken octets) more)
 
+-- a unit of which nothing is said, or what became of it
+pub some_done : {K : Type 0} (hub : Hub K) (conn : Conn) (h : List Arrival) (n : ℕ) (before octets old mid new : List ℕ) (taken k : ℕ) (u : AnyUnit)
+    → Told (says (talk before) octets) taken k u old mid → Talks conn (before ++ take taken octets) → UnitDone hub h (event.Unit n k u) mid new (Ok tt)
+    → SomeDone hub conn h n before octets old new (Ok (record { taken = taken; refused = None }))
+some_done hub conn h n before octets old mid new taken k u t talks (inl lacks) = inl (some_unbuilt h n before octets old mid taken k u t lacks)
+some_done hub conn h n before octets old mid new taken k u t talks (inr one) = inr (some_unit hub conn h n before octets old mid new taken k u t talks one)
+
 -- it stopped at the unit
 pub some_stopped : {K : Type 0} (hub : Hub K) (conn : Conn) (h : List Arrival) (n : ℕ) (before octets old mid new : List ℕ) (taken k : ℕ) (u : AnyUnit) (stop : Stop)
     → Told (says (talk before) octets) taken k u old mid → UnitDone hub h (event.Unit n k u) mid new (Err stop) → SomeDone hub conn h n before octets old new (Err stop)
-some_stopped hub conn h n before octets old mid new taken k u Unbuilt t d = some_unbuilt h n before octets old mid taken k u t d
-some_stopped hub conn h n before octets old mid new taken k u NoMemory t d = tt
-some_stopped hub conn h n before octets old mid new taken k u (BadLine why) t d = absurd d
+some_stopped hub conn h n before octets old mid new taken k u stop t (inl lacks) = inl (some_unbuilt h n before octets old mid taken k u t lacks)
+some_stopped hub conn h n before octets old mid new taken k u Unbuilt t (inr d) = absurd d
+some_stopped hub conn h n before octets old mid new taken k u NoMemory t (inr d) = inr tt
+some_stopped hub conn h n before octets old mid new taken k u (BadLine why) t (inr d) = absurd d
 
 -- the end was heard
 pub some_end : {K : Type 0} (hub : Hub K) (conn : Conn) (h : List Arrival) (n : ℕ) (before octets old new : List ℕ) (taken : ℕ) (closing : Closing)
@@ -214,12 +223,58 @@ going_closes hub next conn then_conn h n before octets rest old mid new closing 
 pub tested_empty : (xs : List ℕ) → true ≡ eqb (length xs) 0 → xs ≡ []
 tested_empty xs e = no_octets xs (eqb-true (length xs) 0 (sym e))
 
--- it stopped on the way
-pub going_stopped : {K : Type 0} (hub next : Hub K) (conn then_conn : Conn) (h : List Arrival) (n : ℕ) (before octets rest old mid new : List ℕ) (stop : Stop) (g : Going hub conn h n before octets rest old mid)
-    → is_shut (talk before) ≡ false → SomeDone next then_conn g.then_ n (before ++ g.front) rest mid new (Err stop) → PieceDone next then_conn h n before octets old new (Err stop)
-going_stopped hub next conn then_conn h n before octets rest old mid new Unbuilt g open_ d = hears_open n (talk before) octets h open_ ∙ g.goes ∙ ap (sent_before g.sofar) d
-going_stopped hub next conn then_conn h n before octets rest old mid new NoMemory g open_ d = tt
-going_stopped hub next conn then_conn h n before octets rest old mid new (BadLine why) g open_ d = absurd d
+-- ---- or nothing is said of a unit on the way
+
+abbrev pub GoesOn : {K : Type 0} → Hub K → Conn → List Arrival → ℕ → List ℕ → List ℕ → List ℕ → List ℕ → List ℕ → Type 0
+GoesOn hub conn h n before octets rest old new = (hear_octets n (talk before) octets h ≡ None) ⊎ Going hub conn h n before octets rest old new
+
+module _ {K : Type 0} (hub next : Hub K) (conn then_conn : Conn) (h : List Arrival) (n : ℕ) (before octets rest old mid new : List ℕ) where
+  lacked : (g : Going hub conn h n before octets rest old mid) → hear_octets n (talk (before ++ g.front)) rest g.then_ ≡ None → hear_octets n (talk before) octets h ≡ None
+  lacked g none = g.goes ∙ ap (sent_before g.sofar) none
+
+  -- what the rest says of the whole
+  abbrev OfRest : Result Heard Stop → Type 0
+  OfRest r = (g : Going hub conn h n before octets rest old mid) → SomeDone next then_conn g.then_ n (before ++ g.front) rest mid new r
+
+  pub goes_more : (heard : Heard) → heard.refused ≡ None → OfRest (Ok heard) → GoesOn hub conn h n before octets rest old mid
+      → GoesOn next then_conn h n before octets (drop heard.taken rest) old new
+  goes_more heard none says (inl lacks) = inl lacks
+  goes_more heard none says (inr g) = by_done (says g)
+    where
+      by_done : SomeDone next then_conn g.then_ n (before ++ g.front) rest mid new (Ok heard) → GoesOn next then_conn h n before octets (drop heard.taken rest) old new
+      by_done (inl lacks) = inl (lacked g lacks)
+      by_done (inr s) = inr (going_more hub next conn then_conn h n before octets rest old mid new heard.taken g
+          (subst (λ (o : Option Closing). SomeHeard next then_conn g.then_ n (before ++ g.front) rest mid new heard.taken o) none s))
+
+  pub piece_closes : (heard : Heard) (closing : Closing) → heard.refused ≡ Some closing → is_shut (talk before) ≡ false → OfRest (Ok heard) → GoesOn hub conn h n before octets rest old mid
+      → PieceDone next then_conn h n before octets old new (Ok (Some closing))
+  piece_closes heard closing some open_ says (inl lacks) = inl (hears_open n (talk before) octets h open_ ∙ lacks)
+  piece_closes heard closing some open_ says (inr g) = by_done (says g)
+    where
+      by_done : SomeDone next then_conn g.then_ n (before ++ g.front) rest mid new (Ok heard) → PieceDone next then_conn h n before octets old new (Ok (Some closing))
+      by_done (inl lacks) = inl (hears_open n (talk before) octets h open_ ∙ lacked g lacks)
+      by_done (inr s) = inr (going_closes hub next conn then_conn h n before octets rest old mid new closing g open_
+          (subst (λ (o : Option Closing). SomeHeard next then_conn g.then_ n (before ++ g.front) rest mid new heard.taken o) some s))
+
+  -- it stopped on the way
+  pub piece_stopped : (stop : Stop) → is_shut (talk before) ≡ false → OfRest (Err stop) → GoesOn hub conn h n before octets rest old mid
+      → PieceDone next then_conn h n before octets old new (Err stop)
+  piece_stopped stop open_ says (inl lacks) = inl (hears_open n (talk before) octets h open_ ∙ lacks)
+  piece_stopped stop open_ says (inr g) = by_done stop (says g)
+    where
+      by_done : (x : Stop) → SomeDone next then_conn g.then_ n (before ++ g.front) rest mid new (Err x) → PieceDone next then_conn h n before octets old new (Err x)
+      by_done x (inl lacks) = inl (hears_open n (talk before) octets h open_ ∙ lacked g lacks)
+      by_done Unbuilt (inr d) = absurd d
+      by_done NoMemory (inr d) = inr tt
+      by_done (BadLine why) (inr d) = absurd d
+
+-- all is heard, and a drain follows
+pub piece_ends : {K : Type 0} (hub next : Hub K) (conn : Conn) (h : List Arrival) (n : ℕ) (before octets rest old new : List ℕ)
+    → is_shut (talk before) ≡ false → rest ≡ [] → ((g : List Arrival) → Serves hub g → Serves next (Hears (event.Drain n) ∷ g))
+    → GoesOn hub conn h n before octets rest old new → PieceDone next conn h n before octets old new (Ok None)
+piece_ends hub next conn h n before octets rest old new open_ none drains (inl lacks) = inl (hears_open n (talk before) octets h open_ ∙ lacks)
+piece_ends hub next conn h n before octets rest old new open_ none drains (inr g) =
+    inr (going_ends hub next conn h n before octets rest old new g open_ none (drains g.then_ g.serves))
 
 shut_stays : (xs : List ℕ) → fold talk_octet Shut xs ≡ Shut
 shut_stays [] = refl

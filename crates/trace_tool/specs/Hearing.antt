@@ -1,5 +1,5 @@
 -- What becomes of a piece of octets at the hub.
-use Rattle.std.specs.Prelude.{◌≡◌, ℕ, ◌<◌, ◌≤◌, List, ◌∷◌, ◌++◌, length, take, drop, Option, None, Some, Result, Ok, Err}
+use Rattle.std.specs.Prelude.{◌≡◌, ℕ, ◌<◌, ◌≤◌, List, ◌∷◌, ◌++◌, length, take, drop, Option, None, Some, ◌⊎◌, Result, Ok, Err}
 use Rattle.amqp_terms.specs.declared.event.HubEvent.{HubEvent}
 use Rattle.amqp_terms.specs.declared.event.HubEvent.TheVariants as event
 use Rattle.history_model.specs.Arrivals.{Arrival, Hears}
@@ -22,12 +22,16 @@ pub record HeardOne {K : Type 0} (hub : Hub K) (h : List Arrival) (e : HubEvent)
   pub sent : new ≡ old ++ more
   pub serves : Serves hub (Hears e ∷ h)
 
--- a unit was heard, or isn't built
+-- a unit was heard
+abbrev pub UnitTold : {K : Type 0} → Hub K → List Arrival → HubEvent → List ℕ → List ℕ → Result (Unit {0}) Stop → Type 0
+UnitTold hub h e old new (Ok done) = HeardOne hub h e old new
+UnitTold hub h e old new (Err Unbuilt) = ⊥
+UnitTold hub h e old new (Err NoMemory) = Unit {0}
+UnitTold hub h e old new (Err (BadLine why)) = ⊥
+
+-- unless nothing is said of it
 abbrev pub UnitDone : {K : Type 0} → Hub K → List Arrival → HubEvent → List ℕ → List ℕ → Result (Unit {0}) Stop → Type 0
-UnitDone hub h e old new (Ok done) = HeardOne hub h e old new
-UnitDone hub h e old new (Err Unbuilt) = (rest : List Arrival → Option Went) → hear_unit h e rest ≡ None
-UnitDone hub h e old new (Err NoMemory) = Unit {0}
-UnitDone hub h e old new (Err (BadLine why)) = ⊥
+UnitDone hub h e old new result = ((rest : List Arrival → Option Went) → hear_unit h e rest ≡ None) ⊎ UnitTold hub h e old new result
 
 -- so many octets were heard, and the rest follows
 pub record HeardSome {K : Type 0} (hub : Hub K) (conn : Conn) (h : List Arrival) (number : ℕ) (before octets old new : List ℕ) (taken : ℕ) : Type 0 where
@@ -49,12 +53,17 @@ abbrev pub SomeHeard : {K : Type 0} → Hub K → Conn → List Arrival → ℕ 
 SomeHeard hub conn h number before octets old new taken None = HeardSome hub conn h number before octets old new taken
 SomeHeard hub conn h number before octets old new taken (Some closing) = HeardEnd hub conn h number before octets old new closing
 
--- octets were heard, or their first unit isn't built
+-- octets were heard
+abbrev pub SomeTold : {K : Type 0} → Hub K → Conn → List Arrival → ℕ → List ℕ → List ℕ → List ℕ → List ℕ → Result Heard Stop → Type 0
+SomeTold hub conn h number before octets old new (Ok heard) = SomeHeard hub conn h number before octets old new heard.taken heard.refused
+SomeTold hub conn h number before octets old new (Err Unbuilt) = ⊥
+SomeTold hub conn h number before octets old new (Err NoMemory) = Unit {0}
+SomeTold hub conn h number before octets old new (Err (BadLine why)) = ⊥
+
+-- unless nothing is said of a unit in them
 abbrev pub SomeDone : {K : Type 0} → Hub K → Conn → List Arrival → ℕ → List ℕ → List ℕ → List ℕ → List ℕ → Result Heard Stop → Type 0
-SomeDone hub conn h number before octets old new (Ok heard) = SomeHeard hub conn h number before octets old new heard.taken heard.refused
-SomeDone hub conn h number before octets old new (Err Unbuilt) = hear_octets number (talk before) octets h ≡ None
-SomeDone hub conn h number before octets old new (Err NoMemory) = Unit {0}
-SomeDone hub conn h number before octets old new (Err (BadLine why)) = ⊥
+SomeDone hub conn h number before octets old new result =
+    (hear_octets number (talk before) octets h ≡ None) ⊎ SomeTold hub conn h number before octets old new result
 
 -- what was taken is some of the octets
 abbrev pub TakesSome : List ℕ → Result Heard Stop → Type 0
@@ -70,9 +79,14 @@ pub record HeardPiece {K : Type 0} (hub : Hub K) (conn : Conn) (h : List Arrival
   pub serves : Serves hub went.heard
   pub talks : Talks conn (before ++ octets)
 
--- a piece was heard, or a unit in it isn't built
+-- a piece was heard
+abbrev pub PieceTold : {K : Type 0} → Hub K → Conn → List Arrival → ℕ → List ℕ → List ℕ → List ℕ → List ℕ → Result (Option Closing) Stop → Type 0
+PieceTold hub conn h number before octets old new (Ok refused) = HeardPiece hub conn h number before octets old new refused
+PieceTold hub conn h number before octets old new (Err Unbuilt) = ⊥
+PieceTold hub conn h number before octets old new (Err NoMemory) = Unit {0}
+PieceTold hub conn h number before octets old new (Err (BadLine why)) = ⊥
+
+-- unless nothing is said of a unit in it
 abbrev pub PieceDone : {K : Type 0} → Hub K → Conn → List Arrival → ℕ → List ℕ → List ℕ → List ℕ → List ℕ → Result (Option Closing) Stop → Type 0
-PieceDone hub conn h number before octets old new (Ok refused) = HeardPiece hub conn h number before octets old new refused
-PieceDone hub conn h number before octets old new (Err Unbuilt) = hear_piece number (talk before) octets h ≡ None
-PieceDone hub conn h number before octets old new (Err NoMemory) = Unit {0}
-PieceDone hub conn h number before octets old new (Err (BadLine why)) = ⊥
+PieceDone hub conn h number before octets old new result =
+    (hear_piece number (talk before) octets h ≡ None) ⊎ PieceTold hub conn h number before octets old new result

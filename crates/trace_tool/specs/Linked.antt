@@ -1,5 +1,5 @@
 -- What becomes of the connections of a trace.
-use Rattle.std.specs.Prelude.{◌≡◌, ℕ, ◌==◌, List, ◌++◌, Option, None, Some, Result, Ok, Err}
+use Rattle.std.specs.Prelude.{◌≡◌, ℕ, ◌==◌, List, ◌++◌, Option, None, Some, ◌⊎◌, Result, Ok, Err}
 use Rattle.std.specs.Map.{lookup}
 use Rattle.history_model.specs.declared.names.ConnName.{ConnName}
 use Rattle.history_model.specs.Arrivals.{Arrival}
@@ -29,13 +29,22 @@ pub record LinkHeard {K : Type 0} (hub : Hub K) (wires : List (ℕ × Wire)) (h 
   pub serves : Serves hub went.heard
   pub links_are : Paired IsLink wires (put_octets links connection (Some link) octets)
 
--- or the connection isn't there, or a unit isn't built
+-- or the connection isn't there
+abbrev pub LinkTold : {K : Type 0} → Hub K → List (ℕ × Wire) → List Arrival → List (ℕ × Link) → ℕ → List ℕ → List ℕ → List ℕ → Result (Option Closing) Stop → Type 0
+LinkTold hub wires h links connection octets old new (Ok refused) = LinkHeard hub wires h links connection octets old new refused
+LinkTold hub wires h links connection octets old new (Err Unbuilt) = ⊥
+LinkTold hub wires h links connection octets old new (Err (BadLine why)) = (lookup (λ n. n == connection) links ≡ None) × (why ≡ NoSuchConnection)
+LinkTold hub wires h links connection octets old new (Err NoMemory) = Unit {0}
+
+-- nothing is said of a unit in the piece
+pub record LinkLacks (h : List Arrival) (links : List (ℕ × Link)) (connection : ℕ) (octets : List ℕ) : Type 0 where
+  pub link : Link
+  pub there : lookup (λ n. n == connection) links ≡ Some link
+  pub lacks : hear_link (Some link) octets h ≡ None
+
 abbrev pub Linked : {K : Type 0} → Hub K → List (ℕ × Wire) → List Arrival → List (ℕ × Link) → ℕ → List ℕ → List ℕ → List ℕ → Result (Option Closing) Stop → Type 0
-Linked hub wires h links connection octets old new (Ok refused) = LinkHeard hub wires h links connection octets old new refused
-Linked hub wires h links connection octets old new (Err Unbuilt) =
-    (link : Link) × (lookup (λ n. n == connection) links ≡ Some link) × (hear_link (Some link) octets h ≡ None)
-Linked hub wires h links connection octets old new (Err (BadLine why)) = (lookup (λ n. n == connection) links ≡ None) × (why ≡ NoSuchConnection)
-Linked hub wires h links connection octets old new (Err NoMemory) = Unit {0}
+Linked hub wires h links connection octets old new result =
+    LinkLacks h links connection octets ⊎ LinkTold hub wires h links connection octets old new result
 
 -- deliveries went out, unless the connection isn't there
 abbrev pub Drained : {K : Type 0} → Hub K → List Arrival → Option Link → Result (Unit {0}) Stop → Type 0

@@ -1,5 +1,5 @@
 -- What the lines of a trace are to the broker, and what is written for each.
-use Rattle.std.specs.Prelude.{◌≡◌, ℕ, Bool, is_some, if◌then◌else◌, map, List, [], ◌∷◌, ◌++◌, Option, None, Some, Result, Ok, Err}
+use Rattle.std.specs.Prelude.{◌≡◌, ℕ, Bool, is_some, if◌then◌else◌, map, List, [], ◌∷◌, ◌++◌, Option, None, Some, ◌⊎◌, Result, Ok, Err}
 use Rattle.broker_engine.specs.declared.conn.Closing.{Closing}
 use Rattle.history_model.specs.declared.names.ConnName.{ConnName}
 use Rattle.history_model.specs.declared.trace.TraceEvent.{TraceEvent}
@@ -94,8 +94,12 @@ Begins keeper (Ok now) = StandsFor now (past_lines []) × (keeper_of now ≡ kee
 Begins keeper (Err (fault, back)) = (fault ≡ no_memory) × (back ≡ keeper)
 
 -- the event is answered as it comes to
+abbrev pub HappensTo : {K : Type 0} → Replay K → Past → TraceEvent → Result (List ℕ) Stop → Type 0
+HappensTo now p e (Ok text) = (event_step p e ≡ Goes text) × StandsFor now (past_event p e)
+HappensTo now p e (Err (BadLine why)) = event_step p e ≡ Breaks why
+HappensTo now p e (Err Unbuilt) = ⊥
+HappensTo now p e (Err NoMemory) = Unit {0}
+
+-- unless nothing is said of it
 abbrev pub Happens : {K : Type 0} → Replay K → Past → TraceEvent → Result (List ℕ) Stop → Type 0
-Happens now p e (Ok text) = (event_step p e ≡ Goes text) × StandsFor now (past_event p e)
-Happens now p e (Err (BadLine why)) = event_step p e ≡ Breaks why
-Happens now p e (Err Unbuilt) = event_step p e ≡ Lacks
-Happens now p e (Err NoMemory) = Unit {0}
+Happens now p e result = (event_step p e ≡ Lacks) ⊎ HappensTo now p e result

@@ -1,7 +1,8 @@
 -- What a tool's words ask for, and what its status says of the run.
-use Rattle.std.specs.Prelude.{◌≡◌, ◌≤◌, ℕ, nat_le, Bool, false, if◌then◌else◌, List, [], ◌∷◌, codes, bytes_eq, string_bytes, Option, None, Some, IfSome, String}
+use Rattle.std.specs.Prelude.{◌≡◌, ◌≤◌, ℕ, nat_le, Bool, true, false, not, if◌then◌else◌, List, [], ◌∷◌, codes, bytes_eq, string_bytes, Option, None, Some, IfSome, String}
 use Rattle.std.specs.Global.{Global}
 use Rattle.outside_core.specs.Faults.{Rose}
+use Rattle.line_runs.specs.Lines.{Progress, outcome, strays}
 use Rattle.line_runs.specs.Run.{Reports}
 use Rattle.line_runs.specs.declared.run.Ended.{Ended}
 use Rattle.line_runs.specs.declared.run.Ended.TheVariants as ended
@@ -68,11 +69,18 @@ pub record OctetsTold (t : OctetTool) (left remains held holds : Option (List �
   pub status_is : answer ≡ status_of_octets ended_as
   pub reports : ReportsTold t left remains held holds ended_as
 
--- the run ended so, and wrote what the broker's definitions give for the input
+-- what the lines of the input come to, and whether something is said of each that is taken
+abbrev pub replayed : List ℕ → Progress
+replayed all = outcome (λ past line. line_step (past_lines past) line) all
+
+abbrev pub is_covered : List ℕ → Bool
+is_covered all = not (strays (replayed all))
+
+-- the run ended so, and wrote what the broker's definitions give for the input, where these cover it
 pub record Replays (left remains held holds : Option (List ℕ)) (answer : Status) : Type 0 where
   pub ended_as : Ended
   pub status_is : answer ≡ status_of ended_as
-  pub reports : IfSome left (λ all. Reports (λ past line. line_step (past_lines past) line) (λ past. closing_of (past_lines past)) all left remains held holds ended_as)
+  pub reports : IfSome left (λ all. is_covered all ≡ true → Reports (λ past line. line_step (past_lines past) line) (λ past. closing_of (past_lines past)) all left remains held holds ended_as)
 
 -- the source's count never falls, and rose where a read failed
 abbrev pub ReadCause : ℕ → ℕ → Status → Type 0

@@ -88,7 +88,7 @@ fn hear_unit<K: Keeper>(
     ensures heard { (h : List Arrival) → Serves hub.old h → UnitDone hub.new h event sent.old.items sent.new.items result }
     ensures keeper { keeper_of hub.new ≡ keeper_of hub.old }
 {
-    if !hub.covers(&event) {
+    if !hub.builds(&event) {
         discard_event(event);
         return Err(Stop::Unbuilt);
     }

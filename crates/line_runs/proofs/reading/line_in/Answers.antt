@@ -1,5 +1,5 @@
 -- The first LF behind the searched octets ends the line; without one the text is an open line, or too long.
-use Rattle.std.proofs.Common.{◌≡◌, ◌+◌, ◌-◌, ◌<◌, ◌≤◌, length, take, drop, refl, subst, arith}
+use Rattle.std.proofs.Common.{◌+◌, ◌<◌, length, refl, subst, arith}
 use Rattle.std.proofs.lemmas.List.{take_rest, length-drop}
 use Rattle.line_runs.specs.Breaks.{IsUnbroken, BreaksAtFirst}
 use Rattle.line_runs.proofs.Handing.{line_at, too_long, open_line, front_at, whole_unbroken}

@@ -1,5 +1,5 @@
 -- What was read so far stands at the end of what was at hand, and each turn reads more.
-use Rattle.std.proofs.Common.{◌+◌, ◌-◌, ◌≤◌, ◌^◌}
+use Rattle.std.proofs.Common.{◌-◌, ◌≤◌, ◌^◌}
 use Rattle.line_runs.proofs.Taking.{SoFar}
 use Rattle.line_runs.proofs.reading.Reading.next.Given as goal
 

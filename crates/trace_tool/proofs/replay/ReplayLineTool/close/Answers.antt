@@ -15,5 +15,5 @@ pub returns : goal.returns
 returns g c = record {
   closes = λ opened past stood.
       let p = past_lines past in
-      whenever c.report.result _ _ (ap (λ names. closing_lines names (world p.arrivals) (state p.arrivals)) (c.as_slice.ensures.value ∙ c.in_ok-names.ensures ∙ names_alike stood.0.links_are)) (c.report.ensures p.arrivals stood.0.serves);
+      whenever c.report.result _ _ (ap (λ names. closing_lines names (world p.arrivals) (state p.arrivals)) (c.as_slice.ensures.value ∙ c.in_ok-names.ensures ∙ names_alike stood.links_are)) (c.report.ensures p.arrivals stood.serves);
 }
