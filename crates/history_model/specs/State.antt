@@ -13,7 +13,7 @@ use Rattle.amqp_terms.specs.declared.command.Command.TheVariants.{QueueDeclare}
 use Rattle.amqp_terms.specs.declared.event.HubEvent.{HubEvent}
 use Rattle.amqp_terms.specs.declared.event.HubEvent.TheVariants as event
 use Rattle.history_model.specs.Arrivals.{Arrival, Hears, Restart}
-use Rattle.history_model.specs.Life.{Heard, number, is_new, next}
+use Rattle.history_model.specs.Life.{Heard, Does, number, is_new, next}
 use Rattle.history_model.specs.Standing.{World, world, life_at, may_attach, pointed, is_name}
 
 -- what happens in the broker, in the order of the arrivals
@@ -102,10 +102,10 @@ may_declare s name =
     (not (length name == 0) && not (starts_with nat_eq name (codes "amq.")))
     && (list_any (is_name name) s.queues || nat_lt (length s.queues) 65536)
 
--- a session whose numbers aren't at their end
+-- a session whose numbers aren't at their end, nor would be after the command
 abbrev pub may_arrive : Option (List Heard) → Bool
 may_arrive None = false
-may_arrive (Some life) = nat_lt (next life) (2 ^ 62)
+may_arrive (Some life) = nat_lt (next life) (2 ^ 62) && nat_lt (next (Does ∷ life)) (2 ^ 62)
 
 -- a number that is there, and not above the limit
 abbrev pub is_within : Option ℕ → ℕ → Bool
@@ -124,10 +124,12 @@ covers_control w connection channel (SessionCommandPoint (Some id) (Some offset)
 covers_control w connection channel control = false
 
 -- the commands whose rules stand: a declare of a queue by its name alone
+abbrev pub declares : State → Command → Bool
+declares s (QueueDeclare (Some name) None false false false false None) = may_declare s name
+declares s command = false
+
 abbrev pub covers_command : World → State → ℕ → ℕ → Command → Bool
-covers_command w s connection channel (QueueDeclare (Some name) None false false false false None) =
-    may_arrive (life_at w (w.holder connection channel)) && may_declare s name
-covers_command w s connection channel command = false
+covers_command w s connection channel command = may_arrive (life_at w (w.holder connection channel)) && declares s command
 
 -- the units whose rules stand
 abbrev pub covers_unit : World → State → ℕ → ℕ → AnyUnit → Bool

@@ -1,10 +1,13 @@
 -- The tables of the code and those of the definitions change alike.
-use Rattle.std.proofs.Common.{◌≡◌, ℕ, ◌<◌, ◌≤◌, ◌^◌, ◌&&◌, not, ltb, leb, eqb, Bool, true, List, [], ◌∷◌, length, Option, None, Some, is_some, ◌∙◌, ap, sym, subst, refl, arith, Result, Ok, Err, IfOk}
+use Rattle.std.proofs.Common.{◌≡◌, ℕ, ◌<◌, ◌≤◌, ◌^◌, ◌&&◌, not, ltb, leb, eqb, Bool, true, false, cond, List, [], ◌∷◌, length, Option, None, Some, is_some, ◌∙◌, ap, sym, subst, refl, arith, Result, Ok, Err, IfOk}
 use Rattle.std.proofs.lemmas.Bool.{ltb-true, leb-true, false≢true, cond-true, and_parts}
 use Rattle.std.specs.List.{filter}
+use Rattle.std.specs.Map.Calls.{RetainsPairs}
+use Rattle.session_core.specs.Sent.{Sending, Sends}
 use Rattle.std.specs.Map.{lookup, set_value}
-use Rattle.history_model.specs.Life.{Heard, next, place}
+use Rattle.history_model.specs.Life.{Heard, Attach, Point, Does, next, place}
 use Rattle.history_model.specs.Pairs.{Paired, Both}
+use Rattle.history_model.specs.Pairs as pairs
 use Rattle.history_model.specs.Standing.{World, is_name, hears_in, hears_control, begins, may_attach, life_of, is_on}
 use Rattle.history_model.specs.State.{may_arrive}
 use Rattle.octet_reading.specs.declared.memory.NoMemory.{NoMemory}
@@ -49,7 +52,7 @@ heard_set name es lives x y heard p found f = by_life (lookup (is_name name) liv
 pub no_arrival : (name : List ℕ) (lives : List (List ℕ × List Heard)) (x : Session) (life : List Heard) → may_arrive (lookup (is_name name) lives) ≡ true
     → lookup (is_name name) lives ≡ Some life → Sits x life → 2 ^ 62 ≤ x.receiver.next → ⊥
 no_arrival name lives x life may e s far =
-    let below : next life < 2 ^ 62 = ltb-true (next life) (2 ^ 62) (sym (ap may_arrive e) ∙ may) in
+    let below : next life < 2 ^ 62 = ltb-true (next life) (2 ^ 62) (and_parts (ltb (next life) (2 ^ 62)) (ltb (next (Does ∷ life)) (2 ^ 62)) (sym (ap may_arrive e) ∙ may)).0 in
     omega (arith, next_is x.receiver life s.receives)
 
 -- where no session is, none takes one
@@ -89,10 +92,37 @@ attach_taken s w queues c k name force (Ok units) both h =
       subst (λ v. StandsAs s v queues) (sym (cond-true (may_attach w c k name) (begins w c k name) w may)) h.1,
     )
 
--- the sessions that a lost connection leaves
-pub left_alike : (connection : ℕ) (old new : List (List ℕ × Session)) (lives : List (List ℕ × List Heard)) → new ≡ filter (λ row. not (eqb row.1.connection connection)) old
-    → Paired Sits old lives → Paired Sits new (filter (λ row. not (is_on connection (place row.1))) lives)
-left_alike connection old new lives e p =
-    subst (λ es. Paired Sits es (filter (λ row. not (is_on connection (place row.1))) lives)) (sym e)
-    (paired-filter Sits (λ row. not (eqb row.1.connection connection)) (λ row. not (is_on connection (place row.1)))
-    (λ name s life sits. ap (λ o. not (is_on connection o)) (sym sits.place_is)) p)
+-- the sessions that a lost connection leaves, by a closure that tells of each whether it lives on
+module _ {F : Type 0} (T : F → List ℕ → Session → Bool → Session → F → Type 0) (connection : ℕ) where
+  -- what the closure answers of a session
+  pub record LivesOn (f : F) (old : Session) (answer : Bool) (new : Session) (after : F) : Type 0 where
+    pub lives : (h : List Heard) → Sits old h → answer ≡ not (is_on connection (place h))
+    pub same : (h : List Heard) → Sits old h → answer ≡ true → new ≡ old
+    pub still : after ≡ f
+
+  pub left_alike : (f : F) → ((k : List ℕ) (v : Session) (b : Bool) (w : Session) (f' : F) → T f k v b w f' → LivesOn f v b w f') → {old : List (List ℕ × Session)} {lives : List (List ℕ × List Heard)} (new : List (List ℕ × Session))
+      → RetainsPairs T f old new → Paired Sits old lives → Paired Sits new (filter (λ row. not (is_on connection (place row.1))) lives)
+  left_alike f h new r pairs.none = subst (λ es. Paired Sits es []) (sym r) pairs.none
+  left_alike f h new r (pairs.more {k = k} {x = x} {y = y} {es = es} {fs = fs} sits p) =
+      let a = h k x r.0 r.1 r.2 r.4 in
+      let rest = left_alike f h r.3 (subst (λ u. RetainsPairs T u es r.3) a.still r.5) p in
+      subst (λ rows. Paired Sits rows (cond (not (is_on connection (place y))) ((k, y) ∷ filter (λ row. not (is_on connection (place row.1))) fs) (filter (λ row. not (is_on connection (place row.1))) fs)))
+      (sym r.6) (by_answer r.0 (a.lives y sits) (a.same y sits) rest)
+    where
+      by_answer : (b : Bool) → b ≡ not (is_on connection (place y)) → (b ≡ true → r.1 ≡ x) → Paired Sits r.3 (filter (λ row. not (is_on connection (place row.1))) fs)
+          → Paired Sits (cond b ((k, r.1) ∷ r.3) r.3) (cond (not (is_on connection (place y))) ((k, y) ∷ filter (λ row. not (is_on connection (place row.1))) fs) (filter (λ row. not (is_on connection (place row.1))) fs))
+      by_answer true is same rest =
+          subst (λ c. Paired Sits ((k, r.1) ∷ r.3) (cond c ((k, y) ∷ filter (λ row. not (is_on connection (place row.1))) fs) (filter (λ row. not (is_on connection (place row.1))) fs))) is
+          (pairs.more (subst (λ v. Sits v y) (sym (same refl)) sits) rest)
+      by_answer false is same rest =
+          subst (λ c. Paired Sits r.3 (cond c ((k, y) ∷ filter (λ row. not (is_on connection (place row.1))) fs) (filter (λ row. not (is_on connection (place row.1))) fs))) is rest
+
+-- a sender has nothing to do with what is received
+pub sends_does : (s : Sending) (life : List Heard) → Sends s life → Sends s (Does ∷ life)
+sends_does s life h = record { first_is = h.first_is; sent_is = h.sent_is; kept_is = h.kept_is; uncompleted_is = h.uncompleted_is }
+
+pub sends_point : (s : Sending) (life : List Heard) (n : ℕ) → Sends s life → Sends s (Point n ∷ life)
+sends_point s life n h = record { first_is = h.first_is; sent_is = h.sent_is; kept_is = h.kept_is; uncompleted_is = h.uncompleted_is }
+
+pub sends_attach : (s : Sending) (c k : ℕ) → Sends s [] → Sends s (Attach c k ∷ [])
+sends_attach s c k h = record { first_is = h.first_is; sent_is = h.sent_is; kept_is = h.kept_is; uncompleted_is = h.uncompleted_is }

@@ -1,13 +1,13 @@
-//! Whether an event's rules are built, as the state stands.
-ghost use Rattle.std.specs.Prelude.{◌≡◌, ℕ, ◌==◌, ◌&&◌, ◌||◌, not, nat_lt, nat_eq, codes, is_some, length, List};
+//! What may be done, as the state stands, and what is built.
+ghost use Rattle.std.specs.Prelude.{◌≡◌, true, ℕ, ◌==◌, ◌&&◌, ◌||◌, not, nat_lt, nat_eq, codes, is_some, length, List};
 ghost use Rattle.std.specs.List.{list_any, starts_with};
 ghost use Rattle.std.specs.Map.{lookup};
 ghost use Rattle.history_model.specs.Standing.{World, life_at, may_attach, is_name};
-ghost use Rattle.history_model.specs.State.{may_declare, may_arrive, may_point, covers_control, covers_command, covers_unit, covered};
+ghost use Rattle.history_model.specs.State.{may_declare, may_arrive, may_point, declares, covers_control, covers_unit, covered};
 ghost use Rattle.hub_core.specs.Stands.{StandsAs};
 
 use crate::session::Session;
-use crate::state::{FAR_END, State};
+use crate::state::State;
 use amqp_terms::{Command, Control, Unit};
 use amqp_values::{Octets, Text};
 use history_model::HubEvent;
@@ -15,9 +15,6 @@ use std::collections::{BTreeMap, BTreeSet};
 
 /// The most sessions that live at once.
 const MOST_SESSIONS: usize = 1024;
-
-/// The most octets of a session's name.
-const LONGEST_NAME: usize = 65_535;
 
 /// The most queues.
 const MOST_QUEUES: usize = 65_536;
@@ -53,7 +50,7 @@ fn is_new_name(sessions: &BTreeMap<Octets, Session>, name: &Octets) -> bool
 
 impl State {
     /// Whether the name and the channel are free, and there is room for a session.
-    fn may_attach(&self, connection: u64, channel: u16, name: &Octets) -> bool
+    pub(crate) fn may_attach(&self, connection: u64, channel: u16, name: &Octets) -> bool
         ensures { (w : World) (queues : List (List ℕ)) → StandsAs self.now w queues → result ≡ may_attach w connection channel name.now }
     {
         let free = self.places.get(connection, channel).is_none();
@@ -62,7 +59,7 @@ impl State {
     }
 
     /// Whether the command-point is within what the session received.
-    fn may_point(&self, connection: u64, channel: u16, id: u32, offset: u64) -> bool
+    pub(crate) fn may_point(&self, connection: u64, channel: u16, id: u32, offset: u64) -> bool
         ensures { (w : World) (queues : List (List ℕ)) → StandsAs self.now w queues
             → result ≡ may_point (life_at w (w.holder connection channel)) id offset }
     {
@@ -75,89 +72,92 @@ impl State {
         }
     }
 
-    /// Whether a session is there whose numbers aren't at their end.
-    fn may_arrive(&self, connection: u64, channel: u16) -> bool
+    /// Whether the session on a channel takes a command.
+    pub(crate) fn takes_command(&self, connection: u64, channel: u16) -> bool
         ensures { (w : World) (queues : List (List ℕ)) → StandsAs self.now w queues
             → result ≡ may_arrive (life_at w (w.holder connection channel)) }
     {
         match self.session_at(connection, channel) {
-            Some(session) => session.receiver.next() < FAR_END,
+            Some(session) => session.takes_command(),
             None => false,
         }
     }
 
-    /// Whether an event's rules are built, as they stand now.
-    pub(crate) fn covers(&self, event: &HubEvent) -> bool
-        ensures { (w : World) (queues : List (List ℕ)) → StandsAs self.now w queues → result ≡ covered w (record { queues = queues }) event.now }
+    /// Whether a command on a channel would act.
+    fn acts(&self, connection: u64, channel: u16) -> bool {
+        match self.session_at(connection, channel) {
+            Some(session) => session.takes_command() && session.receiver.coming().new,
+            None => false,
+        }
+    }
+
+    /// Whether an event is built.
+    pub(crate) fn builds(&self, event: &HubEvent) -> bool
+        ensures { (w : World) (queues : List (List ℕ)) → StandsAs self.now w queues → covered w (record { queues = queues }) event.now ≡ true → result ≡ true }
     {
         match event {
-            HubEvent::Join => true,
             HubEvent::Unit {
                 conn,
                 channel,
                 unit,
-            } => self.covers_unit(*conn, *channel, unit),
-            HubEvent::Drain { .. } => true,
-            HubEvent::Lost { .. } => true,
-            HubEvent::Tick { .. } => false,
+            } => self.builds_unit(*conn, *channel, unit),
+            _ => true,
         }
     }
 
-    fn covers_unit(&self, connection: u64, channel: u16, unit: &Unit) -> bool
-        ensures { (w : World) (queues : List (List ℕ)) → StandsAs self.now w queues
-            → result ≡ covers_unit w (record { queues = queues }) connection channel unit.now }
+    fn builds_unit(&self, connection: u64, channel: u16, unit: &Unit) -> bool
+        ensures { (w : World) (queues : List (List ℕ)) → StandsAs self.now w queues → covers_unit w (record { queues = queues }) connection channel unit.now ≡ true → result ≡ true }
     {
         match unit {
-            Unit::Control(control) => self.covers_control(connection, channel, control),
-            Unit::Command {
-                sync: false,
-                command,
-                content: None,
-            } => self.covers_command(connection, channel, command),
-            _ => false,
+            Unit::Control(control) => is_of_session(control),
+            Unit::Command { command, .. } => self.builds_command(connection, channel, command),
         }
     }
 
-    fn covers_control(&self, connection: u64, channel: u16, control: &Control) -> bool
-        ensures { (w : World) (queues : List (List ℕ)) → StandsAs self.now w queues → result ≡ covers_control w connection channel control.now }
+    /// Whether what a command does is built: the declare of a queue by its name alone, and what acts no more.
+    fn builds_command(&self, connection: u64, channel: u16, command: &Command) -> bool
+        ensures { (w : World) (queues : List (List ℕ)) → StandsAs self.now w queues → declares (record { queues = queues }) command.now ≡ true → result ≡ true }
     {
-        match control {
-            Control::SessionAttach {
-                name: Some(name),
-                force,
-            } => {
-                let free = self.may_attach(connection, channel, name);
-                let new = free && !*force;
-                let short = name.len() <= LONGEST_NAME;
-                new && short
-            }
-            Control::SessionCommandPoint {
-                command_id: Some(id),
-                command_offset: Some(offset),
-            } => self.may_point(connection, channel, *id, *offset),
-            _ => false,
-        }
+        declares(&self.queues, command) || !self.acts(connection, channel)
     }
+}
 
-    fn covers_command(&self, connection: u64, channel: u16, command: &Command) -> bool
-        ensures { (w : World) (queues : List (List ℕ)) → StandsAs self.now w queues
-            → result ≡ covers_command w (record { queues = queues }) connection channel command.now }
-    {
-        match command {
-            Command::QueueDeclare {
-                queue: Some(name),
-                alternate_exchange: None,
-                passive: false,
-                durable: false,
-                exclusive: false,
-                auto_delete: false,
-                arguments: None,
-            } => {
-                let arrives = self.may_arrive(connection, channel);
-                let declarable = is_declarable(&self.queues, name);
-                arrives && declarable
-            }
-            _ => false,
-        }
+/// Whether a command declares a queue by its name alone, which is there or may be made.
+fn declares(queues: &BTreeSet<Text>, command: &Command) -> bool
+    ensures { result ≡ declares (record { queues = queues.now.keys }) command.now }
+{
+    match command {
+        Command::QueueDeclare {
+            queue: Some(name),
+            alternate_exchange: None,
+            passive: false,
+            durable: false,
+            exclusive: false,
+            auto_delete: false,
+            arguments: None,
+        } => is_declarable(queues, name),
+        _ => false,
+    }
+}
+
+/// Whether a control is one of the class session (AMQP 0-10, "session").
+fn is_of_session(control: &Control) -> bool
+    ensures { (w : World) (connection channel : ℕ) → covers_control w connection channel control.now ≡ true → result ≡ true }
+{
+    match control {
+        Control::SessionAttach { .. }
+        | Control::SessionAttached { .. }
+        | Control::SessionDetach { .. }
+        | Control::SessionDetached { .. }
+        | Control::SessionRequestTimeout { .. }
+        | Control::SessionTimeout { .. }
+        | Control::SessionCommandPoint { .. }
+        | Control::SessionExpected { .. }
+        | Control::SessionConfirmed { .. }
+        | Control::SessionCompleted { .. }
+        | Control::SessionKnownCompleted { .. }
+        | Control::SessionFlush { .. }
+        | Control::SessionGap { .. } => true,
+        _ => false,
     }
 }

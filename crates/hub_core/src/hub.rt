@@ -47,7 +47,7 @@ impl<K: Keeper> Hub<K> {
     pub fn builds(&self, event: &HubEvent) -> bool
         ensures { (h : List Arrival) → Serves self.now h → covered (world h) (state h) event.now ≡ true → result ≡ true }
     {
-        self.state.covers(event)
+        self.state.builds(event)
     }
 
     /// Takes an event, and gives what goes out for it on its connection.

@@ -1,10 +1,11 @@
 //! The closing lines.
-ghost use Rattle.std.specs.Prelude.{◌≡◌, ℕ, ◌++◌, List, IfOk, OnOk, string_bytes, flat_map, codes};
+ghost use Rattle.std.specs.Prelude.{◌≡◌, ℕ, ◌+◌, ◌++◌, List, IfOk, OnOk, string_bytes, flat_map, codes};
+ghost use Rattle.std.specs.Fmt.{decimal};
 ghost use Rattle.history_model.specs.Life.{Heard};
 ghost use Rattle.history_model.specs.Pairs.{Paired};
-ghost use Rattle.history_model.specs.Report.{session_text, session_front, session_counts, session_place, session_line, queue_line, shown, trace_number};
+ghost use Rattle.history_model.specs.Report.{session_front, session_counts, session_place, session_line, queue_line, shown, trace_number};
 ghost use Rattle.hub_core.specs.Stands.{Sits};
-ghost use Rattle.hub_core.specs.Rows.{row_text};
+ghost use Rattle.hub_core.specs.Rows.{row_text, stand_text};
 
 use crate::session::Session;
 use amqp_values::{NoMemory, Octets, Text};
@@ -93,6 +94,36 @@ fn push_place(
     Ok(())
 }
 
+/// Puts when a loose session ends at the text's end.
+fn push_deadline(alloc: Global, text: &mut Vec<u8>, since: u64, timeout: u32) -> Result<(), NoMemory>
+    ensures { OnOk result (text.new.items ≡ text.old.items ++ (codes " loose " ++ decimal (since + timeout) ++ codes "\n")) }
+{
+    let deadline = u128::from(since) + u128::from(timeout);
+    let part = format!(in alloc; " loose {deadline}\n")?;
+    text.extend_from_slice(part.as_str().as_bytes())?;
+    Ok(())
+}
+
+/// Puts where a session stands, or when it ends, at the text's end.
+fn push_stand(
+    alloc: Global,
+    text: &mut Vec<u8>,
+    session: &Session,
+    names: &[ConnName],
+) -> Result<(), NoMemory>
+    ensures { OnOk result (text.new.items ≡ text.old.items ++ stand_text names.now session.now session.now.loose) }
+{
+    match session.loose {
+        None => push_place(
+            alloc,
+            text,
+            name_of(names, session.connection),
+            session.channel,
+        ),
+        Some(since) => push_deadline(alloc, text, since, session.timeout),
+    }
+}
+
 /// Puts the line of a session at the text's end.
 fn push_session(
     alloc: Global,
@@ -105,18 +136,8 @@ fn push_session(
 {
     let name = shown(alloc, name)?;
     push_front(alloc, text, name.as_str(), session.receiver.next())?;
-    push_counts(
-        alloc,
-        text,
-        session.sent,
-        session.sent.saturating_sub(session.base),
-    )?;
-    push_place(
-        alloc,
-        text,
-        name_of(names, session.connection),
-        session.channel,
-    )
+    push_counts(alloc, text, session.sender.sent(), session.sender.kept())?;
+    push_stand(alloc, text, session, names)
 }
 
 /// Puts the lines of the sessions at the text's end, by the code's table.

@@ -63,6 +63,7 @@ impl Sender {
     pub fn sent(&self) -> u64
         ensures value { result ≡ sent_by self.now }
         ensures sent { (h : List Heard) → Sends self.now h → result ≡ sent_of h }
+        ensures limit { result ≤ 2 ^ 62 }
     {
         self.base + self.kept.len() as u64
     }

@@ -11,5 +11,6 @@ returns c = record {
   limited = omega arith;
   holders = λ a k. ap (λ rows. holder_in rows a k) c.new.ensures;
   lives_are = subst (λ es. Paired Sits es []) (sym c.new-2.ensures.empty) none;
-  queues_are = c.new-3.ensures.empty;
+  notices_are = c.new-3.ensures.empty;
+  queues_are = c.new-4.ensures.empty;
 }

@@ -24,3 +24,12 @@ returns-in-Lost-clause-steps c = λ w queues s covered.
       subst (λ e. ◌≡◌ {A = Outs} c.sent-in-Lost.result (outs w e)) (sym c.in-Lost.is) none,
       subst (λ e. StandsAs c.lose.new.self (after_event w e) (queues_after w queues e)) (sym c.in-Lost.is) (c.lose.ensures w queues s),
     )
+
+pub returns-in_ok-units-in-Drain-clause-steps : goal.returns-in_ok-units-in-Drain-clause-steps
+returns-in_ok-units-in-Drain-clause-steps c = λ w queues s covered.
+    let did = c.in_ok-units-in-Drain.ensures.drains w queues s in
+    let none : c.sent-in-Drain.result ≡ outs w (event.Drain c.in-Drain.conn) =
+    c.sent-in-Drain.ensures ∙ ap (λ u. record { joined = None; units = u; asked = None }) did.0 in (
+      subst (λ e. ◌≡◌ {A = Outs} c.sent-in-Drain.result (outs w e)) (sym c.in-Drain.is) none,
+      subst (λ e. StandsAs c.drain.new.self (after_event w e) (queues_after w queues e)) (sym c.in-Drain.is) did.1,
+    )

@@ -1,7 +1,0 @@
--- The closure keeps the sessions on other connections, as they were.
-use Rattle.std.proofs.Common.{rules}
-use Rattle.std.proofs.lemmas.Map.Made.{filter_same_pairs}
-use Rattle.hub_core.proofs.state.end_on.Goals as goal
-
-pub returns : goal.returns
-returns c = filter_same_pairs _ _ _ (λ k v b w f' t. search rules) _ _ c.retain.ensures.filtered
