@@ -1,12 +1,14 @@
 -- The octets of units that go out.
-use Rattle.std.specs.Prelude.{ℕ, ◌==◌, nat_lt, Bool, true, false, if◌then◌else◌, List, [], ◌∷◌, length, Some}
+use Rattle.std.specs.Prelude.{ℕ, ◌&&◌, nat_lt, Bool, true, false, if◌then◌else◌, List, [], length, None, Some}
+use Rattle.std.specs.List.{list_all}
+use Rattle.amqp_packed.specs.Spelling.{range_fine}
 use Rattle.octet_reading.specs.declared.why.Why.{Why}
 use Rattle.octet_reading.specs.Words.{word_of}
 use Rattle.amqp_values.specs.declared.value.Range.{Range}
 use Rattle.amqp_terms.specs.declared.unit.Unit.{Unit as AnyUnit}
 use Rattle.amqp_terms.specs.declared.unit.Unit.TheVariants as unit
 use Rattle.amqp_terms.specs.declared.control.Control.{Control}
-use Rattle.amqp_terms.specs.declared.control.Control.TheVariants.{ConnectionClose, SessionAttached, SessionCommandPoint, SessionCompleted}
+use Rattle.amqp_terms.specs.declared.control.Control.TheVariants.{ConnectionClose, SessionAttached, SessionDetached, SessionTimeout, SessionCommandPoint, SessionExpected, SessionConfirmed, SessionCompleted, SessionKnownCompleted, SessionFlush}
 use Rattle.amqp_terms.specs.declared.event.Out.{Out}
 use Rattle.amqp_frames.specs.Frames.{laid}
 use Rattle.amqp_commands.specs.Units.{unit_segments}
@@ -15,17 +17,21 @@ use Rattle.amqp_commands.specs.Units.{unit_segments}
 abbrev pub laid_unit : ℕ → AnyUnit → ℕ → List ℕ
 laid_unit channel unit max_frame = laid channel (unit_segments unit) max_frame
 
--- ranges of one number
-abbrev pub is_one : List Range → Bool
-is_one [] = false
-is_one (r ∷ []) = r.lower == r.upper
-is_one (r ∷ s ∷ ranges) = false
+-- ranges that have a spelling
+abbrev pub ranges_fine : List Range → Bool
+ranges_fine ranges = nat_lt (length ranges) 8192 && list_all range_fine ranges
 
--- the controls that the hub sends: attached, command-point, and completed with one number
+-- the controls that the hub sends, where they have a spelling
 abbrev pub is_said_control : Control → Bool
 is_said_control (SessionAttached (Some name)) = nat_lt (length name) 65536
+is_said_control (SessionDetached (Some name) (Some code)) = nat_lt (length name) 65536
+is_said_control (SessionTimeout (Some timeout)) = true
 is_said_control (SessionCommandPoint (Some id) (Some offset)) = true
-is_said_control (SessionCompleted (Some ranges) false) = is_one ranges
+is_said_control (SessionExpected (Some ranges) None) = ranges_fine ranges
+is_said_control (SessionConfirmed (Some ranges) None) = ranges_fine ranges
+is_said_control (SessionCompleted (Some ranges) false) = ranges_fine ranges
+is_said_control (SessionKnownCompleted (Some ranges)) = ranges_fine ranges
+is_said_control (SessionFlush expected confirmed completed) = true
 is_said_control control = false
 
 -- it sends no command yet

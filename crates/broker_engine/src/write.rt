@@ -1,9 +1,9 @@
 //! Units to octets.
-ghost use Rattle.std.specs.Prelude.{◌≡◌, ◌≤◌, ◌++◌, ◌&&◌, length, nat_lt, true, OnOk, IfOk, flat_map};
+ghost use Rattle.std.specs.Prelude.{◌≡◌, ◌++◌, true, OnOk, IfOk, flat_map};
 ghost use Rattle.std.specs.List.{list_all};
 ghost use Rattle.amqp_packed.specs.Spelling.{range_fine};
 ghost use Rattle.amqp_commands.specs.Units.{unit_fine};
-ghost use Rattle.broker_engine.specs.Wire.{is_one, is_said, is_said_control, laid_unit, out_octets, close_octets, close_unit};
+ghost use Rattle.broker_engine.specs.Wire.{ranges_fine, is_said, is_said_control, laid_unit, out_octets, close_octets, close_unit};
 
 use amqp_commands::write_unit;
 use amqp_frames::write_frames;
@@ -20,24 +20,57 @@ const FRAMING_ERROR: u16 = 501;
 /// The most octets of a session's name.
 const LONGEST_NAME: usize = 65_535;
 
-/// Whether the ranges are one number.
-fn is_one(ranges: &[Range]) -> bool
-    ensures value { result ≡ is_one ranges.now }
-    ensures fine { result ≡ true → (nat_lt (length ranges.now) 8192 && list_all range_fine ranges.now) ≡ true }
+/// The most ranges of a field, and one more.
+const TOO_MANY_RANGES: usize = 8192;
+
+/// Whether the numbers of a range rise by less than half of the circle.
+fn is_fine(range: &Range) -> bool
+    ensures { result ≡ range_fine range.now }
 {
-    match ranges {
-        [range] => range.lower == range.upper,
-        _ => false,
-    }
+    range.upper.wrapping_sub(range.lower) < 2_147_483_648
 }
 
-/// Whether the hub sends such a control: attached, command-point, or completed with one number.
+/// Whether the numbers of each range do.
+fn all_fine(ranges: &[Range]) -> bool
+    ensures { result ≡ list_all range_fine ranges.now }
+{
+    let mut rest = ranges;
+    while let Some((first, more)) = rest.split_first() {
+        if !is_fine(first) {
+            return false;
+        }
+        rest = more;
+    }
+    true
+}
+
+/// Whether the ranges have a spelling.
+fn are_fine(ranges: &[Range]) -> bool
+    ensures { result ≡ ranges_fine ranges.now }
+{
+    ranges.len() < TOO_MANY_RANGES && all_fine(ranges)
+}
+
+/// Whether the hub sends such a control, and it has a spelling.
 fn is_said_control(control: &Control) -> bool
     ensures value { result ≡ is_said_control control.now }
     ensures fine { result ≡ true → unit_fine (Unit.Control control.now) ≡ true }
 {
     match control {
         Control::SessionAttached { name: Some(name) } => name.len() <= LONGEST_NAME,
+        Control::SessionDetached {
+            name: Some(name),
+            code: Some(code),
+        } => {
+            let _code = *code;
+            name.len() <= LONGEST_NAME
+        }
+        Control::SessionTimeout {
+            timeout: Some(timeout),
+        } => {
+            let _timeout = *timeout;
+            true
+        }
         Control::SessionCommandPoint {
             command_id: Some(id),
             command_offset: Some(offset),
@@ -46,10 +79,22 @@ fn is_said_control(control: &Control) -> bool
             let _offset = *offset;
             true
         }
+        Control::SessionExpected {
+            commands: Some(ranges),
+            fragments: None,
+        } => are_fine(ranges.as_slice()),
+        Control::SessionConfirmed {
+            commands: Some(ranges),
+            fragments: None,
+        } => are_fine(ranges.as_slice()),
         Control::SessionCompleted {
             commands: Some(ranges),
             timely_reply: false,
-        } => is_one(ranges.as_slice()),
+        } => are_fine(ranges.as_slice()),
+        Control::SessionKnownCompleted {
+            commands: Some(ranges),
+        } => are_fine(ranges.as_slice()),
+        Control::SessionFlush { .. } => true,
         _ => false,
     }
 }
