@@ -83,31 +83,32 @@ none_alike o (Some link) is h = absurd (subst (λ x. Both IsLink x (Some link)) 
 
 -- ---- drains
 
-pub drained_shut : {K : Type 0} (hub : Hub K) (h : List Arrival) (link : Option Link) (wire : Wire) → Both IsLink (Some wire) link → Serves hub h
-    → ((before : List ℕ) → Talks wire.conn before → true ≡ is_shut (talk before)) → Drained hub h link (Ok tt)
-drained_shut hub h None wire b s shut = absurd b
-drained_shut hub h (Some link) wire b s shut = subst (Serves hub) (by_talk (talk link.heard) (shut link.heard b.talks)) s
+pub drained_shut : {K : Type 0} (hub : Hub K) (h : List Arrival) (link : Option Link) (wire : Wire) (sent : List ℕ) → Both IsLink (Some wire) link → Serves hub h
+    → ((before : List ℕ) → Talks wire.conn before → true ≡ is_shut (talk before)) → Drained hub h link sent sent (Ok tt)
+drained_shut hub h None wire sent b s shut = absurd b
+drained_shut hub h (Some link) wire sent b s shut = (subst (Serves hub) (by_talk (talk link.heard) (shut link.heard b.talks)) s, refl)
   where
     by_talk : (t : Talk) → true ≡ is_shut t → h ≡ drain_talk t link.number h
     by_talk (Open c) e = absurd (cc e)
     by_talk Shut e = refl
 
-pub drained_open : {K : Type 0} (hub : Hub K) (h : List Arrival) (link : Option Link) (wire : Wire) → Both IsLink (Some wire) link → Serves hub (Hears (event.Drain wire.number) ∷ h)
-    → ((before : List ℕ) → Talks wire.conn before → false ≡ is_shut (talk before)) → Drained hub h link (Ok tt)
-drained_open hub h None wire b s open_ = absurd b
-drained_open hub h (Some link) wire b s open_ = subst (Serves hub) (ap (λ n. Hears (event.Drain n) ∷ h) b.number_is ∙ by_talk (talk link.heard) (open_ link.heard b.talks)) s
+pub drained_open : {K : Type 0} (hub : Hub K) (h : List Arrival) (link : Option Link) (wire : Wire) (old new : List ℕ) → Both IsLink (Some wire) link
+    → Serves hub (Hears (event.Drain wire.number) ∷ h) × (new ≡ old) → ((before : List ℕ) → Talks wire.conn before → false ≡ is_shut (talk before)) → Drained hub h link old new (Ok tt)
+drained_open hub h None wire old new b s open_ = absurd b
+drained_open hub h (Some link) wire old new b s open_ =
+    (subst (Serves hub) (ap (λ n. Hears (event.Drain n) ∷ h) b.number_is ∙ by_talk (talk link.heard) (open_ link.heard b.talks)) s.0, s.1)
   where
     by_talk : (t : Talk) → false ≡ is_shut t → Hears (event.Drain link.number) ∷ h ≡ drain_talk t link.number h
     by_talk (Open c) e = refl
     by_talk Shut e = absurd (cc e)
 
-pub drained_err : {K : Type 0} (hub : Hub K) (h : List Arrival) (link : Option Link) (wire : Wire) → Both IsLink (Some wire) link → Drained hub h link (Err NoMemory)
-drained_err hub h None wire b = absurd b
-drained_err hub h (Some link) wire b = tt
+pub drained_err : {K : Type 0} (hub : Hub K) (h : List Arrival) (link : Option Link) (wire : Wire) (old new : List ℕ) → Both IsLink (Some wire) link → Drained hub h link old new (Err NoMemory)
+drained_err hub h None wire old new b = absurd b
+drained_err hub h (Some link) wire old new b = tt
 
-pub drained_none : {K : Type 0} (hub : Hub K) (h : List Arrival) (link : Option Link) → Both IsLink None link → Drained hub h link (Err (BadLine NoSuchConnection))
-drained_none hub h None b = refl
-drained_none hub h (Some link) b = absurd b
+pub drained_none : {K : Type 0} (hub : Hub K) (h : List Arrival) (link : Option Link) (old new : List ℕ) → Both IsLink None link → Drained hub h link old new (Err (BadLine NoSuchConnection))
+drained_none hub h None old new b = refl
+drained_none hub h (Some link) old new b = absurd b
 
 -- ---- a piece on its connection
 
@@ -193,23 +194,23 @@ lost_none now p c is = inr (by_link (link_of p c) is)
     by_link (Some link) e = absurd (cc e)
 
 -- deliveries went out, or there is no such connection
-pub drained_is : {K : Type 0} (now : Replay K) (p : Past) (c : ℕ) (text : List ℕ) → text ≡ [] → Drained now.hub p.arrivals (link_of p c) (Ok tt) → Paired IsLink now.connections.entries p.connections
+pub drained_is : {K : Type 0} (now : Replay K) (p : Past) (c : ℕ) (text old new : List ℕ) → old ≡ [] → text ≡ went_lines c new None → Drained now.hub p.arrivals (link_of p c) old new (Ok tt) → Paired IsLink now.connections.entries p.connections
     → Happens now p (trace.Quiet c) (Ok text)
-drained_is now p c text empty d links = subst (λ xs. Happens now p (trace.Quiet c) (Ok xs)) (sym empty) (inr (by_link (link_of p c) d))
+drained_is now p c text old new empty is d links = inr (by_link (link_of p c) d)
   where
-    by_link : (o : Option Link) → Drained now.hub p.arrivals o (Ok tt) → (cond (is_some o) (Goes []) (Breaks NoSuchConnection) ≡ Goes []) × StandsFor now (record { connections = p.connections; arrivals = drain_link o p.arrivals })
+    by_link : (o : Option Link) → Drained now.hub p.arrivals o old new (Ok tt) → (cond (is_some o) (Goes []) (Breaks NoSuchConnection) ≡ Goes text) × StandsFor now (record { connections = p.connections; arrivals = drain_link o p.arrivals })
     by_link None e = absurd e
-    by_link (Some link) e = (refl, record { serves = e; links_are = links })
+    by_link (Some link) e = (ap Goes (sym (is ∙ ap (λ xs. went_lines c xs None) (e.1 ∙ empty))), record { serves = e.0; links_are = links })
 
 abbrev Stops : Option Link → Stop → Type 0
 Stops o (BadLine why) = cond (is_some o) (Goes []) (Breaks NoSuchConnection) ≡ Breaks why
 Stops o Unbuilt = ⊥
 Stops o NoMemory = Unit {0}
 
-pub not_drained : {K : Type 0} (now : Replay K) (hub : Hub K) (p : Past) (c : ℕ) (stop : Stop) → Drained hub p.arrivals (link_of p c) (Err stop) → Happens now p (trace.Quiet c) (Err stop)
-not_drained now hub p c stop d = by_stop stop (by_link (link_of p c) stop d)
+pub not_drained : {K : Type 0} (now : Replay K) (hub : Hub K) (p : Past) (c : ℕ) (old new : List ℕ) (stop : Stop) → Drained hub p.arrivals (link_of p c) old new (Err stop) → Happens now p (trace.Quiet c) (Err stop)
+not_drained now hub p c old new stop d = by_stop stop (by_link (link_of p c) stop d)
   where
-    by_link : (o : Option Link) (x : Stop) → Drained hub p.arrivals o (Err x) → Stops o x
+    by_link : (o : Option Link) (x : Stop) → Drained hub p.arrivals o old new (Err x) → Stops o x
     by_link None (BadLine why) e = ap Breaks (sym e)
     by_link None Unbuilt e = absurd e
     by_link None NoMemory e = absurd e

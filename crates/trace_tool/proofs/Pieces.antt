@@ -269,12 +269,13 @@ module _ {K : Type 0} (hub next : Hub K) (conn then_conn : Conn) (h : List Arriv
       by_done (BadLine why) (inr d) = absurd d
 
 -- all is heard, and a drain follows
-pub piece_ends : {K : Type 0} (hub next : Hub K) (conn : Conn) (h : List Arrival) (n : ℕ) (before octets rest old new : List ℕ)
-    → is_shut (talk before) ≡ false → rest ≡ [] → ((g : List Arrival) → Serves hub g → Serves next (Hears (event.Drain n) ∷ g))
-    → GoesOn hub conn h n before octets rest old new → PieceDone next conn h n before octets old new (Ok None)
-piece_ends hub next conn h n before octets rest old new open_ none drains (inl lacks) = inl (hears_open n (talk before) octets h open_ ∙ lacks)
-piece_ends hub next conn h n before octets rest old new open_ none drains (inr g) =
-    inr (going_ends hub next conn h n before octets rest old new g open_ none (drains g.then_ g.serves))
+pub piece_ends : {K : Type 0} (hub next : Hub K) (conn : Conn) (h : List Arrival) (n : ℕ) (before octets rest old new drained : List ℕ)
+    → is_shut (talk before) ≡ false → rest ≡ [] → ((g : List Arrival) → Serves hub g → Serves next (Hears (event.Drain n) ∷ g) × (drained ≡ new))
+    → GoesOn hub conn h n before octets rest old new → PieceDone next conn h n before octets old drained (Ok None)
+piece_ends hub next conn h n before octets rest old new drained open_ none drains (inl lacks) = inl (hears_open n (talk before) octets h open_ ∙ lacks)
+piece_ends hub next conn h n before octets rest old new drained open_ none drains (inr g) =
+    let d = drains g.then_ g.serves in
+    subst (λ xs. PieceDone next conn h n before octets old xs (Ok None)) (sym d.1) (inr (going_ends hub next conn h n before octets rest old new g open_ none d.0))
 
 shut_stays : (xs : List ℕ) → fold talk_octet Shut xs ≡ Shut
 shut_stays [] = refl

@@ -46,11 +46,11 @@ abbrev pub Linked : {K : Type 0} → Hub K → List (ℕ × Wire) → List Arriv
 Linked hub wires h links connection octets old new result =
     LinkLacks h links connection octets ⊎ LinkTold hub wires h links connection octets old new result
 
--- deliveries went out, unless the connection isn't there
-abbrev pub Drained : {K : Type 0} → Hub K → List Arrival → Option Link → Result (Unit {0}) Stop → Type 0
-Drained hub h None (Err (BadLine why)) = why ≡ NoSuchConnection
-Drained hub h None result = ⊥
-Drained hub h (Some link) (Ok done) = Serves hub (drain_link (Some link) h)
-Drained hub h (Some link) (Err NoMemory) = Unit {0}
-Drained hub h (Some link) (Err Unbuilt) = ⊥
-Drained hub h (Some link) (Err (BadLine why)) = ⊥
+-- deliveries may have gone out, of which there are none, unless the connection isn't there
+abbrev pub Drained : {K : Type 0} → Hub K → List Arrival → Option Link → List ℕ → List ℕ → Result (Unit {0}) Stop → Type 0
+Drained hub h None old new (Err (BadLine why)) = why ≡ NoSuchConnection
+Drained hub h None old new result = ⊥
+Drained hub h (Some link) old new (Ok done) = Serves hub (drain_link (Some link) h) × (new ≡ old)
+Drained hub h (Some link) old new (Err NoMemory) = Unit {0}
+Drained hub h (Some link) old new (Err Unbuilt) = ⊥
+Drained hub h (Some link) old new (Err (BadLine why)) = ⊥

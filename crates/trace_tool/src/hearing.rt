@@ -40,12 +40,36 @@ pub(crate) fn join<K: Keeper>(hub: &mut Hub<K>) -> Result<Option<u64>, NoMemory>
     }
 }
 
-/// Deliveries may go out; there are none yet.
-pub(crate) fn drain<K: Keeper>(hub: &mut Hub<K>, number: u64) -> Result<(), NoMemory>
-    ensures drains { (h : List Arrival) → Serves hub.old h → OnOk result (Serves hub.new (Hears (HubEvent.Drain number) ∷ h)) }
+/// Deliveries may go out, and what goes out is put at the octets' end.
+pub(crate) fn drain<K: Keeper>(
+    hub: &mut Hub<K>,
+    number: u64,
+    conn: &Conn,
+    sent: &mut Vec<u8>,
+) -> Result<(), NoMemory>
+    ensures drains { (h : List Arrival) → Serves hub.old h → OnOk result (Serves hub.new (Hears (HubEvent.Drain number) ∷ h) × (sent.new.items ≡ sent.old.items)) }
     ensures keeper { keeper_of hub.new ≡ keeper_of hub.old }
 {
     match hub.step(HubEvent::Drain { conn: number }) {
+        Ok(outs) => {
+            let Outs {
+                joined: _,
+                units,
+                asked: _,
+            } = outs;
+            let written = conn.write(units.as_slice(), sent);
+            discard_units(units);
+            written
+        }
+        Err(NoMemory) => Err(NoMemory),
+    }
+}
+
+/// The time has come.
+pub(crate) fn tick<K: Keeper>(hub: &mut Hub<K>, now: u64) -> Result<(), NoMemory>
+    ensures { keeper_of hub.new ≡ keeper_of hub.old }
+{
+    match hub.step(HubEvent::Tick { now }) {
         Ok(outs) => {
             let Outs {
                 joined: _,
@@ -195,7 +219,7 @@ pub(crate) fn hear_piece<K: Keeper>(
             Err(stop) => return Err(stop),
         }
     }
-    match drain(hub, number) {
+    match drain(hub, number, conn, sent) {
         Ok(()) => Ok(None),
         Err(NoMemory) => Err(Stop::NoMemory),
     }

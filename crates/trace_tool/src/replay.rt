@@ -16,7 +16,7 @@ ghost use Rattle.std.specs.Ordering.{nat_cmp};
 ghost use Rattle.broker_engine.specs.Feeds.{Talks};
 ghost use Rattle.trace_tool.specs.Linked.{Linked, Drained, wire_name};
 
-use crate::hearing::{drain, hear_piece, join, lose};
+use crate::hearing::{drain, hear_piece, join, lose, tick};
 use crate::line::{Parsed, parse};
 use crate::wire::{Wire, lines_of};
 use amqp_values::{NoMemory, Octets};
@@ -113,9 +113,10 @@ fn drain_on<K: Keeper>(
     hub: &mut Hub<K>,
     connections: &BTreeMap<u32, Wire>,
     connection: u32,
+    sent: &mut Vec<u8>,
 ) -> Result<(), Stop>
     ensures drained { (h : List Arrival) (links : List (ℕ × Link)) → Serves hub.old h → Paired IsLink connections.now.entries links
-        → Drained hub.new h (lookup (λ n. n == connection) links) result }
+        → Drained hub.new h (lookup (λ n. n == connection) links) sent.old.items sent.new.items result }
     ensures keeper { hub_keeper hub.new ≡ hub_keeper hub.old }
 {
     match connections.get(&connection) {
@@ -123,7 +124,7 @@ fn drain_on<K: Keeper>(
             if wire.conn.is_closed() {
                 return Ok(());
             }
-            match drain(hub, wire.number) {
+            match drain(hub, wire.number, &wire.conn, sent) {
                 Ok(()) => Ok(()),
                 Err(NoMemory) => Err(Stop::NoMemory),
             }
@@ -230,9 +231,23 @@ impl<K: Keeper> Replay<K> {
         ensures happens { (p : Past) → StandsFor self.old p → Happens self.new p (trace.Quiet connection) result }
         ensures keeper { keeper_of self.new ≡ keeper_of self.old }
     {
-        match drain_on(&mut self.hub, &self.connections, connection) {
-            Ok(()) => Ok(Octets::new(alloc)),
+        let mut sent = Vec::new(alloc);
+        match drain_on(&mut self.hub, &self.connections, connection, &mut sent) {
+            Ok(()) => match lines_of(alloc, connection, sent.as_slice(), None) {
+                Ok(lines) => Ok(lines),
+                Err(NoMemory) => Err(Stop::NoMemory),
+            },
             Err(stop) => Err(stop),
+        }
+    }
+
+    /// The time has come.
+    fn tick(&mut self, alloc: Global, now: u64) -> Result<Octets, Stop>
+        ensures { keeper_of self.new ≡ keeper_of self.old }
+    {
+        match tick(&mut self.hub, now) {
+            Ok(()) => Ok(Octets::new(alloc)),
+            Err(NoMemory) => Err(Stop::NoMemory),
         }
     }
 
@@ -247,7 +262,8 @@ impl<K: Keeper> Replay<K> {
             TraceEvent::Open { connection } => { Err(open(has(&self.connections, *connection))) }
             TraceEvent::Lose { connection } => self.lose(alloc, *connection),
             TraceEvent::Quiet { connection } => self.quiet(alloc, *connection),
-            TraceEvent::Tick { now: _ } | TraceEvent::Restart => Err(Stop::Unbuilt),
+            TraceEvent::Tick { now } => self.tick(alloc, *now),
+            TraceEvent::Restart => Err(Stop::Unbuilt),
         }
     }
 }
