@@ -2,7 +2,7 @@
 use Rattle.std.proofs.Common.{◌≡◌, nat_le, ℕ, zero, suc, ◌+◌, ◌<◌, ◌≤◌, eqb, Bool, true, false, List, [], ◌∷◌, ◌∙◌, ap, sym, refl, arith, inl, inr}
 use Rattle.std.proofs.lemmas.Bool.{or_from, and_right, lt-leb, cond-true, cond-false, ne_eqb, cases_lt, true≢false}
 use Rattle.serial_ranges.specs.Runs.{names, within}
-use Rattle.history_model.specs.Life.{Heard, Attach, Point, Does, Gap, Gave, Expected, Confirmed, Completed, number, taken, past_runs, past, first_free, next, IsNext}
+use Rattle.history_model.specs.Life.{Heard, Attach, Point, Does, Gap, Gave, Expected, Confirmed, Completed, number, taken, past_runs, past, first_free, next}
 
 -- no run has a number beyond all of them
 runs_free : (runs : List (ℕ × ℕ)) (n : ℕ) → past_runs runs ≤ n → names runs n ≡ false

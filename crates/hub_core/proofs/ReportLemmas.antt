@@ -1,5 +1,5 @@
 -- The rows of the code's table print as the lives do.
-use Rattle.std.proofs.Common.{◌≡◌, ℕ, ◌-◌, List, ◌++◌, length, flat_map, ◌∙◌, ap, sym, refl, arith}
+use Rattle.std.proofs.Common.{◌≡◌, ℕ, List, ◌++◌, length, flat_map, ◌∙◌, ap, sym, refl}
 use Rattle.history_model.specs.declared.names.ConnName.{ConnName}
 use Rattle.history_model.specs.Life.{Heard, next, sent}
 use Rattle.history_model.specs.Pairs.{Paired, none, more}

@@ -1,5 +1,5 @@
 -- The tables of the code and those of the definitions change alike.
-use Rattle.std.proofs.Common.{◌≡◌, ℕ, ◌<◌, ◌≤◌, ◌^◌, ◌&&◌, not, ltb, leb, eqb, Bool, true, false, cond, List, [], ◌∷◌, length, Option, None, Some, is_some, ◌∙◌, ap, sym, subst, refl, arith, Result, Ok, Err, IfOk}
+use Rattle.std.proofs.Common.{◌≡◌, ℕ, ◌<◌, ◌≤◌, ◌^◌, ◌&&◌, not, ltb, leb, Bool, true, false, cond, List, [], ◌∷◌, length, Option, None, Some, is_some, ◌∙◌, ap, sym, subst, refl, arith, Result, Ok, Err, IfOk}
 use Rattle.std.proofs.lemmas.Bool.{ltb-true, leb-true, false≢true, cond-true, and_parts}
 use Rattle.std.specs.List.{filter}
 use Rattle.std.specs.Map.Calls.{RetainsPairs}
@@ -14,7 +14,7 @@ use Rattle.octet_reading.specs.declared.memory.NoMemory.{NoMemory}
 use Rattle.amqp_terms.specs.declared.control.Control.TheVariants.{SessionAttach}
 use Rattle.amqp_terms.specs.declared.event.Out.{Out}
 use Rattle.history_model.specs.Answers.{attach_answers, control_answers}
-use Rattle.history_model.proofs.Tables.{paired-lookup, paired-set, paired-filter, length-paired}
+use Rattle.history_model.proofs.Tables.{paired-lookup, paired-set, length-paired}
 use Rattle.hub_core.specs.declared.session.Session.{Session}
 use Rattle.hub_core.specs.declared.state.State.{State}
 use Rattle.hub_core.specs.Places.{holder_in}

@@ -95,7 +95,12 @@ fn push_place(
 }
 
 /// Puts when a loose session ends at the text's end.
-fn push_deadline(alloc: Global, text: &mut Vec<u8>, since: u64, timeout: u32) -> Result<(), NoMemory>
+fn push_deadline(
+    alloc: Global,
+    text: &mut Vec<u8>,
+    since: u64,
+    timeout: u32,
+) -> Result<(), NoMemory>
     ensures { OnOk result (text.new.items ≡ text.old.items ++ (codes " loose " ++ decimal (since + timeout) ++ codes "\n")) }
 {
     let deadline = u128::from(since) + u128::from(timeout);

@@ -4,9 +4,7 @@ ghost use Rattle.history_model.specs.Life.{Heard};
 ghost use Rattle.history_model.specs.State.{may_arrive};
 ghost use Rattle.hub_core.specs.Stands.{Sits};
 
-use crate::answers::{
-    Why, all_completed, commands_from, confirmed, detached, expected,
-};
+use crate::answers::{Why, all_completed, commands_from, confirmed, detached, expected};
 use amqp_terms::{Control, send};
 use amqp_values::{NoMemory, Octets, Range, Ranges, Value};
 use history_model::Out;
@@ -93,9 +91,7 @@ impl Session {
     pub(crate) fn takes_command(&self) -> bool
         ensures { (h : List Heard) → Sits self.now h → result ≡ may_arrive (Some h) }
     {
-        self.pointed
-            && self.receiver.next() < FAR_END
-            && self.receiver.after_arrive() < FAR_END
+        self.pointed && self.receiver.next() < FAR_END && self.receiver.after_arrive() < FAR_END
     }
 
     /// Attaches it to another channel, as a resumption.
@@ -245,7 +241,11 @@ impl Session {
         let mut units = units;
         if timely_reply {
             let commands = Some(ranges.copied(alloc)?);
-            units = send(units, self.channel, Control::SessionKnownCompleted { commands })?;
+            units = send(
+                units,
+                self.channel,
+                Control::SessionKnownCompleted { commands },
+            )?;
         }
         let firsts = self.sender.firsts(ranges)?;
         self.sender.completed(ranges, &firsts);

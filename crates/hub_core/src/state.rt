@@ -131,12 +131,7 @@ fn part(sessions: &mut BTreeMap<Octets, Session>, name: &Octets, now: u64) {
 }
 
 /// The session of a name stands on another channel, as a resumption. Takes no memory.
-fn move_in(
-    sessions: &mut BTreeMap<Octets, Session>,
-    name: &Octets,
-    connection: u64,
-    channel: u16,
-) {
+fn move_in(sessions: &mut BTreeMap<Octets, Session>, name: &Octets, connection: u64, channel: u16) {
     if let Some(session) = sessions.get_mut(name) {
         session.move_to(connection, channel);
     }

@@ -1,5 +1,5 @@
 -- Connections of the code and of the definitions change alike.
-use Rattle.std.proofs.Common.{◌≡◌, ℕ, eqb, nat_cmp, cond, Bool, true, false, List, [], ◌∷◌, ◌++◌, map, Option, None, Some, is_some, Result, Ok, Err, ◌⊎◌, inl, inr, ◌∙◌, ap, sym, subst, refl, arith}
+use Rattle.std.proofs.Common.{◌≡◌, ℕ, eqb, nat_cmp, cond, Bool, true, false, List, [], ◌∷◌, ◌++◌, map, Option, None, Some, is_some, Result, Ok, Err, inl, inr, ◌∙◌, ap, sym, subst, refl, arith}
 use Rattle.std.specs.BTreeMap.{is_at}
 use Rattle.std.specs.Map.{lookup, set_value, remove_entry}
 use Rattle.std.specs.Option.{option_map}

@@ -1,5 +1,5 @@
 -- The closure tells of each session whether it lives on.
-use Rattle.std.proofs.Common.{rules, refl}
+use Rattle.std.proofs.Common.{rules}
 use Rattle.hub_core.proofs.StateLemmas.{left_alike}
 use Rattle.hub_core.proofs.state.part_on.Goals as goal
 

@@ -1,5 +1,5 @@
 -- A command that the definitions cover is a declare.
-use Rattle.std.proofs.Common.{◌≡◌, true, false, Bool, Option, None, Some, List, ℕ, subst}
+use Rattle.std.proofs.Common.{◌≡◌, true, false, Bool, Option, None, Some, ℕ, subst}
 use Rattle.std.proofs.lemmas.Bool.{and_parts, false≢true}
 use Rattle.amqp_terms.specs.declared.command.Command.{Command}
 use Rattle.amqp_terms.specs.declared.content.Content.{Content}

@@ -1,5 +1,5 @@
 -- The new life has its rows in both tables.
-use Rattle.std.proofs.Common.{Some, cond, eqb, ◌&&◌, sym, subst, ap, ◌∙◌, refl, [], ◌∷◌}
+use Rattle.std.proofs.Common.{Some, cond, eqb, ◌&&◌, sym, subst, ap, ◌∙◌, [], ◌∷◌}
 use Rattle.std.specs.BTreeMap.{insert_entry}
 use Rattle.std.specs.Ordering.{nat_cmp}
 use Rattle.std.specs.Cmp.Lexicographic.{slice_cmp}

@@ -1,5 +1,5 @@
 -- Numbers stay within reach, and what is named before the next one isn't kept.
-use Rattle.std.proofs.Common.{◌≡◌, ◌+◌, ◌^◌, ◌<◌, ◌≤◌, ◌||◌, ◌∙◌, true, false, ℕ, List, ◌∷◌, refl, inl, inr, sym, ap, subst, arith}
+use Rattle.std.proofs.Common.{◌≡◌, ◌+◌, ◌^◌, ◌<◌, ◌||◌, ◌∙◌, true, ℕ, List, ◌∷◌, refl, inl, inr, sym, ap, subst, arith}
 use Rattle.std.proofs.lemmas.Bool.{cases_Bool}
 use Rattle.serial_ranges.specs.Runs.{AreRanges, names}
 use Rattle.history_model.specs.Life.{Heard, Gap, named}
