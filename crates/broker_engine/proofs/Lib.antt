@@ -1,3 +1,4 @@
 pub mod Saying
 pub mod Said
 pub mod Hears
+pub mod Own

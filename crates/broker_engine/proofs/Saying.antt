@@ -12,10 +12,10 @@ use Rattle.amqp_frames.specs.declared.done.FrameFault.{FrameFault}
 use Rattle.amqp_frames.specs.declared.assembler.Assembler.{Assembler}
 use Rattle.amqp_frames.specs.Cut.{Cutting, Cuts, Faults, cut, cut_on, cut_octet, whole, is_quiet, all_quiet}
 use Rattle.amqp_frames.specs.Stands.{Stands, Run, Refused, Comes}
-use Rattle.broker_engine.specs.declared.conn.Closing.{Closing}
-use Rattle.broker_engine.specs.declared.conn.Fed.{Fed}
-use Rattle.broker_engine.specs.declared.conn.State.{State}
-use Rattle.broker_engine.specs.declared.conn.State.TheVariants as state
+use Rattle.broker_engine.specs.declared.intake.Closing.{Closing}
+use Rattle.broker_engine.specs.declared.intake.Fed.{Fed}
+use Rattle.broker_engine.specs.declared.intake.State.{State}
+use Rattle.broker_engine.specs.declared.intake.State.TheVariants as state
 use Rattle.broker_engine.specs.Talk.{Brings, Nothing, Passes, Closes, Talk, Open, Shut, Says, Waits, Tells, Ends, unit_brings, done_brings, brings, stays, next_cutting, talk_octet, talk, one_later, says_first, says}
 use Rattle.broker_engine.specs.Feeds.{TalksAs, Fits, Read, TakesSome}
 use Rattle.broker_engine.specs.Wire.{close_octets}
@@ -198,7 +198,7 @@ feeds_done a after before piece taken done fed old new is within s comes r = by_
 -- a frame was refused
 pub feeds_refused : (before piece : List ℕ) (fault : FrameFault) (after : State) (fed : Fed) (old new : List ℕ) → talk before ≡ Open (cut limits 0 before)
     → Refused limits 0 (cut limits 0 before) piece fault
-    → fed ≡ record { taken = length piece; unit = None; closed = Some (record { at = fault.at; segment = None; why = fault.why }) } → after ≡ state.Closed → new ≡ old ++ close_octets fault.why
+    → fed ≡ record { taken = length piece; unit = None; closed = Some (record { at = fault.at; segment = None; why = Some fault.why }) } → after ≡ state.Closed → new ≡ old ++ close_octets fault.why
     → TalksAs after (before ++ take fed.taken piece) × Fits (says (talk before) piece) (length piece) fed old new
 feeds_refused before piece fault after fed old new is refused fed_is after_is new_is =
     by_cut (cut limits 0 before) is (subst IsSound is (fold_sound (Open (Cuts [] [])) before tt)) refused
@@ -208,7 +208,7 @@ feeds_refused before piece fault after fed old new is refused fed_is after_is ne
     by_cut (Faults frames at why) e sound r = absurd sound
     by_cut (Cuts frames rest) e sound r =
         let c = Cuts frames rest in
-        let closing : Closing = record { at = fault.at; segment = None; why = fault.why } in
+        let closing : Closing = record { at = fault.at; segment = None; why = Some fault.why } in
         let d = decided c r.part r.more (Closes closing) r.refuses.run (ap brings r.refuses.refuses) in
         let said : says (talk before) piece ≡ Ends closing = ap (λ t. says t piece) e ∙ ap (says (Open c)) r.parts ∙ d.said ∙ later_ends (length d.front) closing in
         let talks : talk (before ++ piece) ≡ Shut =

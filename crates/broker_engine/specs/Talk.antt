@@ -5,7 +5,7 @@ use Rattle.amqp_commands.specs.declared.error.UnitFault.{UnitFault}
 use Rattle.amqp_commands.specs.Units.{unit_in}
 use Rattle.amqp_frames.specs.declared.done.Done.{Done}
 use Rattle.amqp_frames.specs.Cut.{Cutting, Cuts, Faults, cut_octet, whole}
-use Rattle.broker_engine.specs.declared.conn.Closing.{Closing}
+use Rattle.broker_engine.specs.declared.intake.Closing.{Closing}
 
 -- what one octet brings
 pub data Brings : Type 0 where
@@ -16,7 +16,7 @@ pub data Brings : Type 0 where
 -- the unit of an assembly whose first frame has this place, or its first fault
 abbrev pub unit_brings : ℕ → ℕ → Result AnyUnit UnitFault → Brings
 unit_brings channel at (Ok unit) = Passes channel unit
-unit_brings channel at (Err fault) = Closes (record { at = at; segment = Some (fault.segment, fault.at); why = fault.why })
+unit_brings channel at (Err fault) = Closes (record { at = at; segment = Some (fault.segment, fault.at); why = Some fault.why })
 
 abbrev pub done_brings : Option Done → Brings
 done_brings None = Nothing
@@ -25,7 +25,7 @@ done_brings (Some done) = unit_brings done.channel done.at (unit_in done.assembl
 -- an octet that brought the frames here
 abbrev pub brings : Cutting → Brings
 brings (Cuts frames rest) = done_brings (whole (Cuts frames rest))
-brings (Faults frames at why) = Closes (record { at = at; segment = None; why = why })
+brings (Faults frames at why) = Closes (record { at = at; segment = None; why = Some why })
 
 -- a connection is open, its octets cut into frames; or it is Closed, and nothing that follows is heard
 pub data Talk : Type 0 where

@@ -6,6 +6,7 @@ use Rattle.std.specs.BTreeMap.{insert_entry}
 use Rattle.std.specs.Ordering.{nat_cmp}
 use Rattle.hex.specs.Hex.{encode_lower}
 use Rattle.octet_reading.specs.Words.{word_of}
+use Rattle.octet_reading.specs.declared.why.Why.{Why}
 use Rattle.amqp_terms.specs.declared.event.HubEvent.{HubEvent}
 use Rattle.amqp_terms.specs.declared.event.HubEvent.TheVariants as event
 use Rattle.history_model.specs.declared.trace.TraceEvent.{TraceEvent}
@@ -14,9 +15,9 @@ use Rattle.history_model.specs.Arrivals.{Arrival, Hears}
 use Rattle.history_model.specs.Standing.{world}
 use Rattle.history_model.specs.State.{state, covered}
 use Rattle.history_model.specs.Answers.{answers, joined_as}
-use Rattle.broker_engine.specs.declared.conn.Closing.{Closing}
+use Rattle.broker_engine.specs.declared.intake.Closing.{Closing}
 use Rattle.broker_engine.specs.Talk.{Brings, Nothing, Passes, Closes, Talk, Open, Shut, brings_octet, talk_octet, talk}
-use Rattle.broker_engine.specs.Wire.{out_octets, close_octets}
+use Rattle.broker_engine.specs.Wire.{out_octets, closing_octets}
 
 -- what went out for a piece, all that was heard, and where the connection ended
 pub record Went : Type 0 where
@@ -35,7 +36,7 @@ hear_unit h e rest = if covered (world h) (state h) e then sent_before (flat_map
 
 -- a fault is told to the peer, and the connection is lost
 abbrev pub hear_end : ℕ → Closing → List Arrival → Option Went
-hear_end connection closing h = Some (record { sent = close_octets closing.why; heard = Hears (event.Lost connection) ∷ h; refused = Some closing })
+hear_end connection closing h = Some (record { sent = closing_octets closing.why; heard = Hears (event.Lost connection) ∷ h; refused = Some closing })
 
 abbrev pub hear_brings : ℕ → Brings → List Arrival → (List Arrival → Option Went) → Option Went
 hear_brings connection Nothing h rest = rest h
@@ -128,7 +129,12 @@ segment_text (Some (segment, at)) = codes " " ++ decimal segment ++ codes " " ++
 abbrev pub refused_front : ℕ → ℕ → List ℕ
 refused_front connection at = codes "refused " ++ decimal connection ++ codes " " ++ decimal at
 
+-- the line of a connection that was refused for a reason
+abbrev pub refused_text : ℕ → ℕ → Option (ℕ × ℕ) → Option Why → List ℕ
+refused_text connection at segment None = []
+refused_text connection at segment (Some why) = refused_front connection at ++ segment_text segment ++ word_of why ++ codes "\n"
+
 -- the line of a connection that was refused, if it was
 abbrev pub refused_line : ℕ → Option Closing → List ℕ
 refused_line connection None = []
-refused_line connection (Some closing) = refused_front connection closing.at ++ segment_text closing.segment ++ word_of closing.why ++ codes "\n"
+refused_line connection (Some closing) = refused_text connection closing.at closing.segment closing.why

@@ -1,5 +1,5 @@
 -- The octets of units that go out.
-use Rattle.std.specs.Prelude.{ℕ, ◌&&◌, nat_lt, Bool, true, false, if◌then◌else◌, List, [], length, None, Some}
+use Rattle.std.specs.Prelude.{ℕ, ◌&&◌, nat_lt, Bool, true, false, if◌then◌else◌, List, [], length, Option, None, Some}
 use Rattle.std.specs.List.{list_all}
 use Rattle.amqp_packed.specs.Spelling.{range_fine}
 use Rattle.octet_reading.specs.declared.why.Why.{Why}
@@ -49,3 +49,8 @@ close_unit why = unit.Control (ConnectionClose (Some 501) (Some (word_of why)))
 
 abbrev pub close_octets : Why → List ℕ
 close_octets why = laid_unit 0 (close_unit why) 65535
+
+-- a peer that closes the connection itself isn't told why
+abbrev pub closing_octets : Option Why → List ℕ
+closing_octets None = []
+closing_octets (Some why) = close_octets why

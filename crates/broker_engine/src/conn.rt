@@ -1,46 +1,21 @@
 //! A connection: octets of the peer to units, and units to octets.
-ghost use Rattle.std.specs.Prelude.{◌≡◌, ℕ, ◌++◌, List, [], flat_map, IfOk, OnOk, None, Some};
-ghost use Rattle.amqp_frames.specs.Assembly.{IsPlaced};
-ghost use Rattle.amqp_commands.specs.Units.{unit_in};
-ghost use Rattle.broker_engine.specs.Talk.{unit_brings, talk, is_shut};
-ghost use Rattle.broker_engine.specs.Wire.{out_octets, close_octets};
-ghost use Rattle.broker_engine.specs.Feeds.{Talks, Feeds, Read, TakesSome};
+ghost use Rattle.std.specs.Prelude.{◌≡◌, ℕ, ◌++◌, ◌⊎◌, List, [], flat_map, false, IfOk, OnOk, None, Some};
+ghost use Rattle.broker_engine.specs.Talk.{talk, is_shut};
+ghost use Rattle.broker_engine.specs.Wire.{out_octets};
+ghost use Rattle.broker_engine.specs.Feeds.{Talks, Feeds, TakesSome, is_own};
 
-use crate::write::{LARGEST, push_close, push_outs};
-use amqp_commands::{UnitError, UnitFault, read_unit};
-use amqp_frames::{Assembler, Done, FrameError, FrameFault};
+use crate::intake::{Closing, Fed, Intake};
+use crate::write::{LARGEST, push_header, push_outs, push_units};
 use amqp_terms::{Out, Unit};
-use amqp_values::{NoMemory, Why};
+use amqp_values::NoMemory;
+use conn_core::{Said, ServerEnd};
 use std::alloc::Global;
 
-/// Where and why a connection became Closed. Its peer was told.
-#[derive(Clone, Copy, Debug, PartialEq, Eq)]
-pub struct Closing {
-    /// The place of the frame, or of the first frame of the unit's assembly. Places count the
-    /// connection's octets from 0.
-    pub at: u64,
-    /// The segment of a unit that is no unit, from 0, and the index within it.
-    pub segment: Option<(u32, u64)>,
-    pub why: Why,
-}
+/// The first largest frame, until one is agreed (AMQP 0-10, "connection.tune").
+const FIRST_FRAME: u16 = 4_096;
 
-/// What came of a piece of octets.
-#[derive(Debug, Drop)]
-pub struct Fed {
-    /// The octets that were taken: those up to the end of the first unit for the hub, else all.
-    pub taken: usize,
-    /// The unit, with its channel before it.
-    pub unit: Option<(u16, Unit)>,
-    /// There in the call in which the connection becomes Closed.
-    pub closed: Option<Closing>,
-}
-
-/// Open, with what came of assemblies; or Closed, for good.
-#[derive(Drop)]
-enum State {
-    Open(Assembler),
-    Closed,
-}
+/// How many octets the protocol header has.
+const HEADER: usize = 8;
 
 /// The octets of one connection, both ways.
 ///
@@ -48,18 +23,16 @@ enum State {
 #[derive(Drop)]
 pub struct Conn {
     alloc: Global,
-    state: State,
-}
-
-/// A unit's fault, as a connection is closed for it.
-fn closing_of(at: u64, fault: UnitFault) -> Closing
-    ensures { result ≡ record { at = at; segment = Some (fault.segment, fault.at); why = fault.why } }
-{
-    Closing {
-        at,
-        segment: Some((fault.segment, fault.at)),
-        why: fault.why,
-    }
+    /// The protocol header is awaited, of which so many octets came.
+    awaits: bool,
+    known: usize,
+    head: [u8; 8],
+    intake: Intake,
+    end: ServerEnd,
+    /// The largest frame that goes out.
+    max_frame: u16,
+    /// How many octets the peer sent.
+    heard: u64,
 }
 
 impl Conn {
@@ -67,108 +40,191 @@ impl Conn {
     pub fn ready(alloc: Global) -> Result<Conn, NoMemory>
         ensures { IfOk result (λ conn. Talks conn []) }
     {
-        let assembler = Assembler::new(alloc, LARGEST, 0)?;
+        let intake = Intake::new(alloc, LARGEST, 0)?;
         Ok(Conn {
             alloc,
-            state: State::Open(assembler),
+            awaits: false,
+            known: 0,
+            head: [0; 8],
+            intake,
+            end: ServerEnd::ready(alloc),
+            max_frame: LARGEST,
+            heard: 0,
         })
     }
 
-    /// Takes octets up to the end of the first unit for the hub, else all; and puts the connection's own
-    /// answers at the end of `out`. What follows a fault is passed over.
+    /// A connection that begins with its protocol header.
+    pub fn open(alloc: Global) -> Result<Conn, NoMemory> {
+        let intake = Intake::new(alloc, FIRST_FRAME, HEADER as u64)?;
+        Ok(Conn {
+            alloc,
+            awaits: true,
+            known: 0,
+            head: [0; 8],
+            intake,
+            end: ServerEnd::waiting(alloc),
+            max_frame: FIRST_FRAME,
+            heard: 0,
+        })
+    }
+
+    /// Takes octets up to the end of the first unit, else some or all; and puts the connection's own answers at the end
+    /// of `out`. The unit is handed out where it is for the hub. What follows the connection's end is passed over.
     ///
     /// Without memory the connection is only to be dropped.
     pub fn feed(&mut self, piece: &[u8], out: &mut Vec<u8>) -> Result<Fed, NoMemory>
         ensures feeds { (before : List ℕ) → Talks self.old before → IfOk result (λ fed. Feeds self.new before piece.now out.old.items out.new.items fed) }
         ensures takes { TakesSome piece.now result }
     {
-        match &mut self.state {
-            State::Closed => Ok(Fed {
-                taken: piece.len(),
+        let fed = self.take(piece, out)?;
+        self.note(fed.taken);
+        Ok(fed)
+    }
+
+    /// Notes that so many octets came.
+    fn note(&mut self, taken: usize)
+        ensures { (before : List ℕ) → Talks self.old before → Talks self.new before }
+    {
+        self.heard = self.heard.saturating_add(taken as u64);
+        self.end.octets_came();
+    }
+
+    fn take(&mut self, piece: &[u8], out: &mut Vec<u8>) -> Result<Fed, NoMemory>
+        ensures feeds { (before : List ℕ) → Talks self.old before → IfOk result (λ fed. Feeds self.new before piece.now out.old.items out.new.items fed) }
+        ensures takes { TakesSome piece.now result }
+    {
+        if self.awaits {
+            return self.take_head(piece, out);
+        }
+        let fed = self.intake.feed(piece, out)?;
+        let Fed {
+            taken,
+            unit,
+            closed,
+        } = fed;
+        match unit {
+            Some((channel, unit)) => self.hear(taken, piece.len(), channel, unit, out),
+            None => Ok(Fed {
+                taken,
+                unit: None,
+                closed,
+            }),
+        }
+    }
+
+    /// Takes the next octet of the protocol header.
+    fn take_head(&mut self, piece: &[u8], out: &mut Vec<u8>) -> Result<Fed, NoMemory>
+        ensures { TakesSome piece.now result }
+    {
+        let Some(octet) = piece.first() else {
+            return Ok(Fed {
+                taken: 0,
                 unit: None,
                 closed: None,
-            }),
-            State::Open(assembler) => match assembler.feed(piece) {
-                Ok(fed) => {
-                    let amqp_frames::Fed { taken, done } = fed;
-                    match done {
-                        None => Ok(Fed {
-                            taken,
-                            unit: None,
-                            closed: None,
-                        }),
-                        Some(done) => self.read(taken, piece.len(), done, out),
-                    }
-                }
-                Err(FrameError::Bad(fault)) => {
-                    let closing = Closing {
-                        at: fault.at,
-                        segment: None,
-                        why: fault.why,
-                    };
-                    self.close(piece.len(), closing, out)
-                }
-                Err(FrameError::NoMemory) => Err(NoMemory),
-            },
+            });
+        };
+        if let Some(slot) = self.head.get_mut(self.known) {
+            *slot = *octet;
         }
-    }
-
-    /// Reads the unit of an assembly that came.
-    fn read(
-        &mut self,
-        taken: usize,
-        all: usize,
-        done: Done,
-        out: &mut Vec<u8>,
-    ) -> Result<Fed, NoMemory>
-        requires { IsPlaced done.assembly }
-        ensures { IfOk result (λ fed. Read (unit_brings done.channel done.at (unit_in done.assembly)) taken all self.old.state self.new.state fed out.old.items out.new.items) }
-    {
-        let Done {
-            channel,
-            assembly,
-            at,
-            end: _,
-        } = done;
-        match read_unit(self.alloc, &assembly) {
-            Ok(unit) => Ok(Fed {
-                taken,
-                unit: Some((channel, unit)),
+        self.known = self.known.saturating_add(1);
+        if self.known < HEADER {
+            return Ok(Fed {
+                taken: 1,
+                unit: None,
                 closed: None,
-            }),
-            Err(UnitError::Bad(fault)) => self.close(all, closing_of(at, fault), out),
-            Err(UnitError::NoMemory) => Err(NoMemory),
+            });
         }
-    }
-
-    /// Tells the peer why the connection is closed, and takes no more of it.
-    fn close(&mut self, taken: usize, closing: Closing, out: &mut Vec<u8>) -> Result<Fed, NoMemory>
-        ensures { IfOk result (λ fed. (fed ≡ record { taken = taken; unit = None; closed = Some closing }) × (self.new.state ≡ State.Closed)
-            × (out.new.items ≡ out.old.items ++ close_octets closing.why)) }
-    {
-        push_close(self.alloc, out, closing.why)?;
-        self.state = State::Closed;
+        self.awaits = false;
+        let said = self.end.header(self.head)?;
+        if said.echo {
+            push_header(out)?;
+        }
+        let closed = self.say(said, 0, out)?;
+        let taken = if closed.is_some() { piece.len() } else { 1 };
         Ok(Fed {
             taken,
             unit: None,
-            closed: Some(closing),
+            closed,
         })
+    }
+
+    /// Hears a unit, which is for the hub or for the connection itself.
+    fn hear(
+        &mut self,
+        taken: usize,
+        all: usize,
+        channel: u16,
+        unit: Unit,
+        out: &mut Vec<u8>,
+    ) -> Result<Fed, NoMemory>
+        ensures passes { is_own unit ≡ false → (before : List ℕ) → Talks self.old before
+            → IfOk result (λ fed. (fed ≡ record { taken = taken; unit = Some (channel, unit); closed = None }) × Talks self.new before × (out.new.items ≡ out.old.items)) }
+        ensures takes { IfOk result (λ fed. (fed.taken ≡ taken) ⊎ (fed.taken ≡ all)) }
+    {
+        let said = self.end.hear(channel, &unit)?;
+        if said.pass {
+            return Ok(Fed {
+                taken,
+                unit: Some((channel, unit)),
+                closed: None,
+            });
+        }
+        let at = self.intake.at();
+        let closed = self.say(said, at, out)?;
+        Ok(Fed {
+            taken: if closed.is_some() { all } else { taken },
+            unit: None,
+            closed,
+        })
+    }
+
+    /// Puts what the connection says itself at the octets' end; gives where it is closed by it.
+    fn say(&mut self, said: Said, at: u64, out: &mut Vec<u8>) -> Result<Option<Closing>, NoMemory> {
+        let Said {
+            units,
+            echo: _,
+            max_frame,
+            closed,
+            pass: _,
+        } = said;
+        push_units(self.alloc, out, units.as_slice(), self.max_frame)?;
+        self.max_frame = max_frame;
+        self.intake.set_max(max_frame);
+        match closed {
+            Some(why) => {
+                self.intake.shut();
+                Ok(Some(Closing {
+                    at,
+                    segment: None,
+                    why,
+                }))
+            }
+            None => Ok(None),
+        }
+    }
+
+    /// Is told the time, in seconds: a heartbeat may go out, or the peer's silence closes the connection.
+    ///
+    /// Without memory the connection is only to be dropped.
+    pub fn moment(&mut self, now: u64, out: &mut Vec<u8>) -> Result<Option<Closing>, NoMemory> {
+        if self.intake.is_closed() {
+            return Ok(None);
+        }
+        let said = self.end.moment(now)?;
+        self.say(said, self.heard, out)
     }
 
     /// Whether it is Closed, and hears nothing more.
     pub fn is_closed(&self) -> bool
         ensures { (before : List ℕ) → Talks self.now before → result ≡ is_shut (talk before) }
     {
-        match &self.state {
-            State::Open(_) => false,
-            State::Closed => true,
-        }
+        self.intake.is_closed()
     }
 
     /// Puts units that go out at the octets' end.
     pub fn write(&self, outs: &[Out], out: &mut Vec<u8>) -> Result<(), NoMemory>
-        ensures { OnOk result (out.new.items ≡ out.old.items ++ flat_map out_octets outs.now) }
+        ensures { self.now.max_frame ≡ 65535 → OnOk result (out.new.items ≡ out.old.items ++ flat_map out_octets outs.now) }
     {
-        push_outs(self.alloc, out, outs)
+        push_outs(self.alloc, out, outs, self.max_frame)
     }
 }

@@ -2,6 +2,8 @@
 #![tactic(auto)]
 
 mod conn;
+mod intake;
 mod write;
 
-pub use conn::{Closing, Conn, Fed};
+pub use conn::Conn;
+pub use intake::{Closing, Fed};

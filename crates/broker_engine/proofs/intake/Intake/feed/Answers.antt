@@ -2,10 +2,10 @@
 use Rattle.std.proofs.Common.{Err, ◌++◌, take, length, sym, subst, refl}
 use Rattle.amqp_frames.specs.Cut.{cut}
 use Rattle.amqp_frames.specs.Stands.{Comes, Feeds as Gives}
-use Rattle.broker_engine.specs.declared.conn.State.TheVariants as state
+use Rattle.broker_engine.specs.declared.intake.State.TheVariants as state
 use Rattle.broker_engine.specs.Feeds.{TalksAs}
 use Rattle.broker_engine.proofs.Saying.{limits, feeds_waits, feeds_done, feeds_refused, feeds_shut, if_ok, read_takes}
-use Rattle.broker_engine.proofs.conn.Conn.feed.Goals as goal
+use Rattle.broker_engine.proofs.intake.Intake.feed.Goals as goal
 
 pub returns-in-Closed-clause-feeds : goal.returns-in-Closed-clause-feeds
 returns-in-Closed-clause-feeds c = λ before t.
