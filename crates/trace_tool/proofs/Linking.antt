@@ -9,7 +9,7 @@ use Rattle.history_model.specs.declared.trace.TraceEvent.TheVariants as trace
 use Rattle.history_model.specs.Arrivals.{Arrival, Hears}
 use Rattle.history_model.specs.Pairs.{Paired, none, more, Both}
 use Rattle.history_model.proofs.Tables.{lookup_same, paired-lookup, paired-set}
-use Rattle.broker_engine.specs.declared.conn.Closing.{Closing}
+use Rattle.broker_engine.specs.declared.intake.Closing.{Closing}
 use Rattle.broker_engine.specs.declared.conn.Conn.{Conn}
 use Rattle.broker_engine.specs.Feeds.{Talks}
 use Rattle.broker_engine.specs.Talk.{Talk, Open, Shut, talk, is_shut}
@@ -93,10 +93,10 @@ drained_shut hub h (Some link) wire sent b s shut = (subst (Serves hub) (by_talk
     by_talk Shut e = refl
 
 pub drained_open : {K : Type 0} (hub : Hub K) (h : List Arrival) (link : Option Link) (wire : Wire) (old new : List ℕ) → Both IsLink (Some wire) link
-    → Serves hub (Hears (event.Drain wire.number) ∷ h) × (new ≡ old) → ((before : List ℕ) → Talks wire.conn before → false ≡ is_shut (talk before)) → Drained hub h link old new (Ok tt)
+    → (wire.conn.max_frame ≡ 65535 → Serves hub (Hears (event.Drain wire.number) ∷ h) × (new ≡ old)) → ((before : List ℕ) → Talks wire.conn before → false ≡ is_shut (talk before)) → Drained hub h link old new (Ok tt)
 drained_open hub h None wire old new b s open_ = absurd b
 drained_open hub h (Some link) wire old new b s open_ =
-    (subst (Serves hub) (ap (λ n. Hears (event.Drain n) ∷ h) b.number_is ∙ by_talk (talk link.heard) (open_ link.heard b.talks)) s.0, s.1)
+    let d = s b.talks.wide in (subst (Serves hub) (ap (λ n. Hears (event.Drain n) ∷ h) b.number_is ∙ by_talk (talk link.heard) (open_ link.heard b.talks)) d.0, d.1)
   where
     by_talk : (t : Talk) → false ≡ is_shut t → Hears (event.Drain link.number) ∷ h ≡ drain_talk t link.number h
     by_talk (Open c) e = refl

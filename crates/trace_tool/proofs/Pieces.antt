@@ -1,21 +1,28 @@
 -- A piece is heard unit by unit.
-use Rattle.std.proofs.Common.{◌≡◌, ℕ, eqb, true, false, List, [], ◌∷◌, ◌++◌, length, take, drop, fold, Option, None, Some, Result, Ok, Err, ◌⊎◌, inl, inr, ◌∙◌, ap, sym, subst, refl, arith, append_assoc}
-use Rattle.std.proofs.lemmas.Bool.{eqb-true}
+use Rattle.std.proofs.Common.{◌≡◌, ℕ, cond, flat_map, eqb, true, false, List, [], ◌∷◌, ◌++◌, length, take, drop, fold, Option, None, Some, Result, Ok, Err, ◌⊎◌, inl, inr, ◌∙◌, ap, sym, subst, refl, arith, append_assoc}
+use Rattle.std.proofs.lemmas.Bool.{eqb-true, false≢true}
 use Rattle.std.proofs.lemmas.List.{append-nil, take-append-drop, length-drop}
 use Rattle.std.proofs.Math.Seq.{take-length}
 use Rattle.amqp_terms.specs.declared.unit.Unit.{Unit as AnyUnit}
 use Rattle.amqp_terms.specs.declared.event.HubEvent.TheVariants as event
 use Rattle.history_model.specs.Arrivals.{Arrival, Hears}
-use Rattle.broker_engine.specs.declared.conn.Closing.{Closing}
+use Rattle.broker_engine.specs.declared.intake.Closing.{Closing}
 use Rattle.broker_engine.specs.declared.conn.Conn.{Conn}
-use Rattle.broker_engine.specs.declared.conn.Fed.{Fed}
-use Rattle.broker_engine.specs.declared.conn.State.{State}
-use Rattle.broker_engine.specs.declared.conn.State.TheVariants as state
+use Rattle.broker_engine.specs.declared.intake.Fed.{Fed}
+use Rattle.broker_engine.specs.declared.intake.State.{State}
+use Rattle.broker_engine.specs.declared.intake.State.TheVariants as state
 use Rattle.amqp_frames.specs.Cut.{cut}
 use Rattle.broker_engine.specs.Talk.{Talk, Open, Shut, Says, Waits, Tells, Ends, talk_octet, talk, says, is_shut}
-use Rattle.broker_engine.specs.Feeds.{Talks, TalksAs, Fits}
+use Rattle.broker_engine.specs.Feeds.{Talks, TalksAs, Fits, TellsOwn, is_own}
+use Rattle.conn_core.specs.Server.{is_of_connection}
+use Rattle.amqp_terms.specs.declared.unit.Unit.TheVariants as unit
+use Rattle.amqp_terms.specs.declared.control.Control.{Control}
+use Rattle.amqp_terms.specs.declared.control.Control.TheVariants as control
+use Rattle.history_model.specs.Answers.{answers}
+use Rattle.history_model.specs.Standing.{World, world}
+use Rattle.history_model.specs.State.{State as Broker, state, covers_unit, covers_control}
 use Rattle.broker_engine.specs.Trace.{Went, sent_before, hear_unit, hear_octets, hear_piece}
-use Rattle.broker_engine.specs.Wire.{close_octets}
+use Rattle.broker_engine.specs.Wire.{out_octets, closing_octets}
 use Rattle.broker_engine.proofs.Saying.{talk_parts}
 use Rattle.broker_engine.proofs.Hears.{HeardAs, heard_as}
 use Rattle.hub_core.specs.declared.hub.Hub.{Hub}
@@ -59,7 +66,7 @@ told (Ends closing) all taken k u closed old new f = let e : Some (k, u) ≡ Non
 pub record Ended (s : Says) (all taken : ℕ) (closing : Closing) (old new : List ℕ) : Type 0 where
   pub says_is : s ≡ Ends closing
   pub all_is : taken ≡ all
-  pub sent : new ≡ old ++ close_octets closing.why
+  pub sent : new ≡ old ++ closing_octets closing.why
 
 pub ended : (s : Says) (all taken : ℕ) (closing : Closing) (old new : List ℕ) → Fits s all (record { taken = taken; unit = None; closed = Some closing }) old new → Ended s all taken closing old new
 ended Waits all taken closing old new f = let e : Some closing ≡ None = ap (λ (x : Fed). x.closed) f.0 in absurd (cc e)
@@ -67,7 +74,7 @@ ended (Tells n j v) all taken closing old new f = let e : Some closing ≡ None 
 ended (Ends c) all taken closing old new f =
     let e : Some closing ≡ Some c = ap (λ (x : Fed). x.closed) f.0 in
     let same : closing ≡ c = cc e in
-    record { says_is = ap Ends (sym same); all_is = ap (λ (x : Fed). x.taken) f.0; sent = f.1 ∙ ap (λ (x : Closing). old ++ close_octets x.why) (sym same) }
+    record { says_is = ap Ends (sym same); all_is = ap (λ (x : Fed). x.taken) f.0; sent = f.1 ∙ ap (λ (x : Closing). old ++ closing_octets x.why) (sym same) }
 
 -- nothing
 pub record Waited (s : Says) (all taken : ℕ) (old new : List ℕ) : Type 0 where
@@ -148,6 +155,47 @@ some_none hub conn h n before octets old new taken w talks serves =
       talks = talks;
     }
 
+-- a unit for the connection itself, of which nothing is said
+own_uncovered : (w : World) (s : Broker) (n k : ℕ) (u : AnyUnit) → is_own u ≡ true → covers_unit w s n k u ≡ false
+own_uncovered w s n k (unit.Command sync command content) own = absurd (false≢true own)
+own_uncovered w s n k (unit.Control c) own = by_control c own
+  where
+    by_control : (x : Control) → is_of_connection x ≡ true → covers_control w n k x ≡ false
+    by_control (control.ConnectionStart a b c) own = refl
+    by_control (control.ConnectionStartOk a b c d) own = refl
+    by_control (control.ConnectionSecure a) own = refl
+    by_control (control.ConnectionSecureOk a) own = refl
+    by_control (control.ConnectionTune a b c d) own = refl
+    by_control (control.ConnectionTuneOk a b c) own = refl
+    by_control (control.ConnectionOpen a b c) own = refl
+    by_control (control.ConnectionOpenOk a) own = refl
+    by_control control.ConnectionHeartbeat own = refl
+    by_control (control.ConnectionClose a b) own = refl
+    by_control control.ConnectionCloseOk own = refl
+    by_control (control.SessionAttach a b) own = absurd (false≢true own)
+    by_control (control.SessionAttached a) own = absurd (false≢true own)
+    by_control (control.SessionDetach a) own = absurd (false≢true own)
+    by_control (control.SessionDetached a b) own = absurd (false≢true own)
+    by_control (control.SessionRequestTimeout a) own = absurd (false≢true own)
+    by_control (control.SessionTimeout a) own = absurd (false≢true own)
+    by_control (control.SessionCommandPoint a b) own = absurd (false≢true own)
+    by_control (control.SessionExpected a b) own = absurd (false≢true own)
+    by_control (control.SessionConfirmed a b) own = absurd (false≢true own)
+    by_control (control.SessionCompleted a b) own = absurd (false≢true own)
+    by_control (control.SessionKnownCompleted a) own = absurd (false≢true own)
+    by_control (control.SessionFlush a b c) own = absurd (false≢true own)
+    by_control (control.SessionGap a) own = absurd (false≢true own)
+
+pub own_lacks : (h : List Arrival) (n : ℕ) (before octets : List ℕ) → TellsOwn (says (talk before) octets) → hear_octets n (talk before) octets h ≡ None
+own_lacks h n before octets own = by_says (says (talk before) octets) own (heard_as n (talk before) octets h)
+  where
+    by_says : (s : Says) → TellsOwn s → HeardAs s n (talk before) octets h → hear_octets n (talk before) octets h ≡ None
+    by_says Waits own heard = absurd own
+    by_says (Ends closing) own heard = absurd own
+    by_says (Tells taken k u) own heard =
+        heard ∙ ap (λ b. cond b (sent_before (flat_map out_octets (answers (world h) (event.Unit n k u))) (hear_octets n (fold talk_octet (talk before) (take taken octets)) (drop taken octets) (Hears (event.Unit n k u) ∷ h))) None)
+        (own_uncovered (world h) (state h) n k u own)
+
 -- ---- a whole piece
 
 -- the octets so far were heard, and the rest follows
@@ -211,10 +259,10 @@ going_ends hub next conn h n before octets rest old new g open_ none serves =
 pub going_closes : {K : Type 0} (hub next : Hub K) (conn then_conn : Conn) (h : List Arrival) (n : ℕ) (before octets rest old mid new : List ℕ) (closing : Closing) (g : Going hub conn h n before octets rest old mid)
     → is_shut (talk before) ≡ false → HeardEnd next then_conn g.then_ n (before ++ g.front) rest mid new closing → HeardPiece next then_conn h n before octets old new (Some closing)
 going_closes hub next conn then_conn h n before octets rest old mid new closing g open_ e = record {
-  went = record { sent = g.sofar ++ close_octets closing.why; heard = Hears (event.Lost n) ∷ g.then_; refused = Some closing };
+  went = record { sent = g.sofar ++ closing_octets closing.why; heard = Hears (event.Lost n) ∷ g.then_; refused = Some closing };
   goes = hears_open n (talk before) octets h open_ ∙ g.goes ∙ ap (sent_before g.sofar) e.goes;
   refused_is = refl;
-  sent = e.sent ∙ ap (λ xs. xs ++ close_octets closing.why) g.sent ∙ append_assoc old g.sofar (close_octets closing.why);
+  sent = e.sent ∙ ap (λ xs. xs ++ closing_octets closing.why) g.sent ∙ append_assoc old g.sofar (closing_octets closing.why);
   serves = e.serves;
   talks = subst (Talks then_conn) (append_assoc before g.front rest ∙ ap (λ xs. before ++ xs) (sym g.parts)) e.talks;
 }
@@ -270,11 +318,11 @@ module _ {K : Type 0} (hub next : Hub K) (conn then_conn : Conn) (h : List Arriv
 
 -- all is heard, and a drain follows
 pub piece_ends : {K : Type 0} (hub next : Hub K) (conn : Conn) (h : List Arrival) (n : ℕ) (before octets rest old new drained : List ℕ)
-    → is_shut (talk before) ≡ false → rest ≡ [] → ((g : List Arrival) → Serves hub g → Serves next (Hears (event.Drain n) ∷ g) × (drained ≡ new))
+    → is_shut (talk before) ≡ false → rest ≡ [] → ((g : List Arrival) → Serves hub g → conn.max_frame ≡ 65535 → Serves next (Hears (event.Drain n) ∷ g) × (drained ≡ new))
     → GoesOn hub conn h n before octets rest old new → PieceDone next conn h n before octets old drained (Ok None)
 piece_ends hub next conn h n before octets rest old new drained open_ none drains (inl lacks) = inl (hears_open n (talk before) octets h open_ ∙ lacks)
 piece_ends hub next conn h n before octets rest old new drained open_ none drains (inr g) =
-    let d = drains g.then_ g.serves in
+    let d = drains g.then_ g.serves g.talks.wide in
     subst (λ xs. PieceDone next conn h n before octets old xs (Ok None)) (sym d.1) (inr (going_ends hub next conn h n before octets rest old new g open_ none d.0))
 
 shut_stays : (xs : List ℕ) → fold talk_octet Shut xs ≡ Shut
@@ -297,7 +345,7 @@ going_shut hub conn h n before octets old shut serves talks =
       refused_is = refl;
       sent = sym (append-nil old);
       serves = serves;
-      talks = stays_shut conn.state before octets is talks;
+      talks = record { begun = talks.begun; is_open = talks.is_open; wide = talks.wide; talks = stays_shut conn.intake.state before octets is talks.talks };
     }
   where
     of_shut : (t : Talk) → is_shut t ≡ true → t ≡ Shut

@@ -3,12 +3,12 @@ use Rattle.std.specs.Prelude.{◌≡◌, ℕ, ◌<◌, ◌≤◌, List, ◌∷�
 use Rattle.amqp_terms.specs.declared.event.HubEvent.{HubEvent}
 use Rattle.amqp_terms.specs.declared.event.HubEvent.TheVariants as event
 use Rattle.history_model.specs.Arrivals.{Arrival, Hears}
-use Rattle.broker_engine.specs.declared.conn.Closing.{Closing}
+use Rattle.broker_engine.specs.declared.intake.Closing.{Closing}
 use Rattle.broker_engine.specs.declared.conn.Conn.{Conn}
 use Rattle.broker_engine.specs.Feeds.{Talks}
 use Rattle.broker_engine.specs.Talk.{talk}
 use Rattle.broker_engine.specs.Trace.{Went, hear_unit, hear_end, hear_octets, hear_piece, sent_before}
-use Rattle.broker_engine.specs.Wire.{close_octets}
+use Rattle.broker_engine.specs.Wire.{closing_octets}
 use Rattle.hub_core.specs.declared.hub.Hub.{Hub}
 use Rattle.hub_core.specs.Hub.{Serves}
 use Rattle.line_runs.specs.declared.tool.Stop.{Stop}
@@ -45,7 +45,7 @@ pub record HeardSome {K : Type 0} (hub : Hub K) (conn : Conn) (h : List Arrival)
 -- the connection was closed
 pub record HeardEnd {K : Type 0} (hub : Hub K) (conn : Conn) (h : List Arrival) (number : ℕ) (before octets old new : List ℕ) (closing : Closing) : Type 0 where
   pub goes : hear_octets number (talk before) octets h ≡ hear_end number closing h
-  pub sent : new ≡ old ++ close_octets closing.why
+  pub sent : new ≡ old ++ closing_octets closing.why
   pub serves : Serves hub (Hears (event.Lost number) ∷ h)
   pub talks : Talks conn (before ++ octets)
 

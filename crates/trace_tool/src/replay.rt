@@ -37,6 +37,8 @@ pub struct Replay<K> {
     hub: Hub<K>,
     /// The trace's connections.
     connections: BTreeMap<u32, Wire>,
+    /// The greatest time, in seconds, that was told.
+    time: u64,
 }
 
 /// Whether the trace has such a connection.
@@ -133,14 +135,39 @@ fn drain_on<K: Keeper>(
     }
 }
 
-/// Why a connection with its negotiation to come is not taken: its number is in use, or it isn't built yet.
-fn open(in_use: bool) -> Stop
-    ensures { result ≡ (if in_use then Stop.BadLine TraceWhy.InUse else Stop.Unbuilt) }
+/// Tells a connection the time; gives the lines of what it sent and of its end.
+fn tell<K: Keeper>(
+    hub: &mut Hub<K>,
+    alloc: Global,
+    connection: u32,
+    wire: &mut Wire,
+    now: u64,
+) -> Result<Octets, NoMemory>
+    ensures { hub_keeper hub.new ≡ hub_keeper hub.old }
 {
-    if in_use {
-        return Stop::BadLine(TraceWhy::InUse);
+    let mut sent = Vec::new(alloc);
+    let closed = wire.conn.moment(now, &mut sent)?;
+    if closed.is_some() {
+        lose(hub, wire.number)?;
     }
-    Stop::Unbuilt
+    lines_of(alloc, connection, sent.as_slice(), closed)
+}
+
+/// Tells all connections the time, by rising number.
+fn tell_all<K: Keeper>(
+    hub: &mut Hub<K>,
+    alloc: Global,
+    connections: &mut BTreeMap<u32, Wire>,
+    now: u64,
+) -> Result<Octets, NoMemory>
+    ensures { hub_keeper hub.new ≡ hub_keeper hub.old }
+{
+    let mut text = Vec::new(alloc);
+    for (connection, wire) in connections.iter_mut() {
+        let lines = tell(hub, alloc, *connection, wire, now)?;
+        text.extend_from_slice(lines.as_slice())?;
+    }
+    Ok(Octets::from_vec(text))
 }
 
 impl<K: Keeper> Replay<K> {
@@ -154,6 +181,7 @@ impl<K: Keeper> Replay<K> {
             Ok(hub) => Ok(Replay {
                 hub,
                 connections: BTreeMap::new(alloc),
+                time: 0,
             }),
             Err(refused) => Err(refused),
         }
@@ -166,6 +194,7 @@ impl<K: Keeper> Replay<K> {
         let Replay {
             hub,
             connections: _,
+            time: _,
         } = self;
         hub.close()
     }
@@ -187,6 +216,34 @@ impl<K: Keeper> Replay<K> {
                 Err(NoMemory) => Err(Stop::NoMemory),
             },
             Ok(None) => Ok(Octets::new(alloc)),
+            Err(NoMemory) => Err(Stop::NoMemory),
+        }
+    }
+
+    /// A connection that begins with its protocol header joins.
+    fn open_one(&mut self, alloc: Global, connection: u32) -> Result<(), NoMemory>
+        ensures { keeper_of self.new ≡ keeper_of self.old }
+    {
+        let mut conn = Conn::open(alloc)?;
+        let mut sent = Vec::new(alloc);
+        let _ = conn.moment(self.time, &mut sent)?;
+        match join(&mut self.hub) {
+            Ok(Some(number)) => add(&mut self.connections, connection, number, conn),
+            Ok(None) => Ok(()),
+            Err(NoMemory) => Err(NoMemory),
+        }
+    }
+
+    /// A connection that begins with its protocol header joins, unless its number is in use.
+    fn begin(&mut self, alloc: Global, connection: u32) -> Result<Octets, Stop>
+        ensures happens { (p : Past) → StandsFor self.old p → Happens self.new p (trace.Open connection) result }
+        ensures keeper { keeper_of self.new ≡ keeper_of self.old }
+    {
+        if has(&self.connections, connection) {
+            return Err(Stop::BadLine(TraceWhy::InUse));
+        }
+        match self.open_one(alloc, connection) {
+            Ok(()) => Ok(Octets::new(alloc)),
             Err(NoMemory) => Err(Stop::NoMemory),
         }
     }
@@ -245,8 +302,14 @@ impl<K: Keeper> Replay<K> {
     fn tick(&mut self, alloc: Global, now: u64) -> Result<Octets, Stop>
         ensures { keeper_of self.new ≡ keeper_of self.old }
     {
-        match tick(&mut self.hub, now) {
-            Ok(()) => Ok(Octets::new(alloc)),
+        if self.time < now {
+            self.time = now;
+        }
+        if tick(&mut self.hub, now).is_err() {
+            return Err(Stop::NoMemory);
+        }
+        match tell_all(&mut self.hub, alloc, &mut self.connections, self.time) {
+            Ok(lines) => Ok(lines),
             Err(NoMemory) => Err(Stop::NoMemory),
         }
     }
@@ -259,7 +322,7 @@ impl<K: Keeper> Replay<K> {
         match event {
             TraceEvent::Ready { connection } => self.ready(alloc, *connection),
             TraceEvent::Bytes { connection, octets } => self.bytes(alloc, *connection, octets),
-            TraceEvent::Open { connection } => { Err(open(has(&self.connections, *connection))) }
+            TraceEvent::Open { connection } => self.begin(alloc, *connection),
             TraceEvent::Lose { connection } => self.lose(alloc, *connection),
             TraceEvent::Quiet { connection } => self.quiet(alloc, *connection),
             TraceEvent::Tick { now } => self.tick(alloc, *now),

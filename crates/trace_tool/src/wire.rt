@@ -99,11 +99,14 @@ fn push_refused(
 {
     match refused {
         None => Ok(()),
-        Some(closing) => {
-            push_front(alloc, text, connection, closing.at)?;
-            push_segment(alloc, text, closing.segment)?;
-            push_why(text, closing.why)
-        }
+        Some(closing) => match closing.why {
+            None => Ok(()),
+            Some(why) => {
+                push_front(alloc, text, connection, closing.at)?;
+                push_segment(alloc, text, closing.segment)?;
+                push_why(text, why)
+            }
+        },
     }
 }
 

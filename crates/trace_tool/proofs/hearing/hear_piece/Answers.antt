@@ -37,4 +37,4 @@ returns-in-Err-clause-heard g c = λ h before s t.
 pub returns-in-Ok-drain-clause-heard : goal.returns-in-Ok-drain-clause-heard
 returns-in-Ok-drain-clause-heard g c = λ h before s t.
     piece_ends c.loop-rest.hub c.drain.new.hub c.loop-rest.conn h c.args.number before c.args.octets.now c.loop-rest.rest.now c.args.sent.now.items c.loop-rest.sent.items c.drain.new.sent.items (sym (c.if-is_closed.ensures before t))
-    (tested_empty c.loop-rest.rest.now c.loop-rest-test.ensures) (λ i serves. c.in-Ok-drain.ensures.drains i serves) (c.loop-rest.invariant.0 h before s t)
+    (tested_empty c.loop-rest.rest.now c.loop-rest-test.ensures) (λ i serves wide. c.in-Ok-drain.ensures.drains i serves wide) (c.loop-rest.invariant.0 h before s t)

@@ -24,7 +24,7 @@ done_by hub h e old new r told = by_covered (covered (world h) (state h) e) refl
     by_covered false is = inl (λ rest. ap (λ b. if b then sent_before (flat_map out_octets (answers (world h) e)) (rest (Hears e ∷ h)) else None) is)
 
 pub returns-in-Ok-written-clause-heard : goal.returns-in-Ok-written-clause-heard
-returns-in-Ok-written-clause-heard g c = λ h s.
+returns-in-Ok-written-clause-heard g c = λ h s wide.
     let e = c.args.event in
     let text = flat_map out_octets (answers (world h) e) in
     done_by c.step.new.self h e c.args.sent.now.items _ (Ok tt) (λ is.
@@ -32,10 +32,10 @@ returns-in-Ok-written-clause-heard g c = λ h s.
     record {
       more = text;
       goes = λ rest. ap (λ b. if b then sent_before text (rest (Hears e ∷ h)) else None) is;
-      sent = c.in-Ok-written.ensures ∙ ap (λ units. c.args.sent.now.items ++ flat_map out_octets units) (c.as_slice.ensures ∙ ap (λ (o : Outs). o.units) did.0);
+      sent = c.in-Ok-written.ensures wide ∙ ap (λ units. c.args.sent.now.items ++ flat_map out_octets units) (c.as_slice.ensures ∙ ap (λ (o : Outs). o.units) did.0);
       serves = did.1;
     })
 
 pub returns-then-not-builds-clause-heard : goal.returns-then-not-builds-clause-heard
-returns-then-not-builds-clause-heard g c = λ h s.
+returns-then-not-builds-clause-heard g c = λ h s wide.
     done_by c.args.hub.now h c.args.event c.args.sent.now.items c.args.sent.now.items (Err Unbuilt) (λ is. let e : false ≡ true = c.if-not-builds.ensures h s is in true≢false (sym e))

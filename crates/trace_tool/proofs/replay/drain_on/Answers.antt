@@ -10,7 +10,7 @@ returns-then-is_closed-clause-drained g c = λ h links s p.
 
 pub returns-in-Ok-clause-drained : goal.returns-in-Ok-clause-drained
 returns-in-Ok-clause-drained g c = λ h links s p.
-    drained_open c.drain.new.hub h _ c.in-Some.wire.now c.args.sent.now.items c.drain.new.sent.items (link_alike c.args.connection c.args.connections.now.entries links (Some c.in-Some.wire.now) c.in-Some.ensures.value p) (c.in-Ok.ensures.drains h s)
+    drained_open c.drain.new.hub h _ c.in-Some.wire.now c.args.sent.now.items c.drain.new.sent.items (link_alike c.args.connection c.args.connections.now.entries links (Some c.in-Some.wire.now) c.in-Some.ensures.value p) (λ wide. c.in-Ok.ensures.drains h s wide)
     (λ before t. c.if-is_closed.ensures before t)
 
 pub returns-in-Err-clause-drained : goal.returns-in-Err-clause-drained
