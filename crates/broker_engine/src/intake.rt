@@ -147,7 +147,13 @@ impl Intake {
     }
 
     /// Tells the peer why the connection is closed, and takes no more of it.
-    fn close(&mut self, taken: usize, closing: Closing, why: Why, out: &mut Vec<u8>) -> Result<Fed, NoMemory>
+    fn close(
+        &mut self,
+        taken: usize,
+        closing: Closing,
+        why: Why,
+        out: &mut Vec<u8>,
+    ) -> Result<Fed, NoMemory>
         ensures { IfOk result (λ fed. (fed ≡ record { taken = taken; unit = None; closed = Some closing }) × (self.new.state ≡ State.Closed)
             × (out.new.items ≡ out.old.items ++ close_octets why)) }
     {

@@ -1,5 +1,5 @@
 -- Its code is known by its variant.
-use Rattle.std.proofs.Common.{◌≡◌, eqb, ap, sym, ◌∙◌}
+use Rattle.std.proofs.Common.{eqb, ap, sym, ◌∙◌}
 use Rattle.std.proofs.lemmas.Bool.{and_from}
 use Rattle.amqp_values.specs.declared.value.Value.{Value}
 use Rattle.amqp_values.specs.Spelling.{Told, told, is_valid}

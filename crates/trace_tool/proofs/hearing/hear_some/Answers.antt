@@ -1,5 +1,5 @@
 -- A unit, an end, or nothing, as the connection gave it.
-use Rattle.std.proofs.Common.{ℕ, List, ◌++◌, length, take, Option, None, Some, Result, Ok, Err, subst, ◌⊎◌, inl, inr}
+use Rattle.std.proofs.Common.{ℕ, List, ◌++◌, length, take, Option, None, Some, Result, Ok, Err, subst, inl, inr}
 use Rattle.amqp_terms.specs.declared.unit.Unit.{Unit as AnyUnit}
 use Rattle.history_model.specs.Arrivals.{Arrival}
 use Rattle.broker_engine.specs.declared.conn.Conn.{Conn}
