@@ -6,6 +6,8 @@ mod help;
 mod octet_rows;
 #[cfg(test)]
 mod rows;
+#[cfg(test)]
+mod session_rows;
 mod streams;
 
 use crate::help::{HELP, VERSION};

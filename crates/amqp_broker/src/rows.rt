@@ -7,7 +7,12 @@ use std::test::Fail;
 use trace_tool::{Status, run_tool};
 
 /// The status of a run over the text, where it wrote what it should.
-fn ran(alloc: Global, word: &str, text: &str, wanted: &str) -> Result<Option<Status>, Fail> {
+pub(crate) fn ran(
+    alloc: Global,
+    word: &str,
+    text: &str,
+    wanted: &str,
+) -> Result<Option<Status>, Fail> {
     ran_over(
         alloc,
         word,
